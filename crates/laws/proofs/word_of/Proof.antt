@@ -1,0 +1,33 @@
+-- `word_of` meets its contract: the sum of the four bytes is Horner's. Assumes nothing.
+use native.Mathlib.Omega.{arith}
+use Rattle.laws.specs.Words.{number}
+use borrow.Author.Needs.{needs}
+use Rattle.laws.proofs.word_of.Statement.{statement}
+use Rattle.laws.proofs.word_of.Tie as tie
+
+mul-result : tie.Need-mul-result
+mul-result c = search needs
+
+add-result : tie.Need-add-result
+add-result c = search needs
+
+mul-result-2 : tie.Need-mul-result-2
+mul-result-2 c = search needs
+
+add-result-2 : tie.Need-add-result-2
+add-result-2 c = search needs
+
+mul-result-3 : tie.Need-mul-result-3
+mul-result-3 c = search needs
+
+add-result-3 : tie.Need-add-result-3
+add-result-3 c = search needs
+
+returns : tie.Need-returns
+unfolding number
+returns c = omega arith
+
+pub word-of-spec : {M : Type 1} → statement M
+word-of-spec =
+    tie.close
+    (tie.spec mul-result add-result mul-result-2 add-result-2 mul-result-3 add-result-3 returns)

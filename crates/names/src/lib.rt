@@ -1,0 +1,207 @@
+// The names of document 01, "Names and images": keys, localities, variables and nodes are four disjoint sets, so each is a type of
+// its own, and nothing that takes one accepts another. References hold keys. Sets of localities are the bits of a word.
+ghost use mathlib.Core.Path.{_≡_};
+ghost use Prim.Native.Nat.{_<_};
+ghost use lib.Dec.{ltb};
+ghost use Rattle.names.specs.Names.{key, locality, reference, none, belowOrNone, isKey, isKeyOrNone, isLocality, isLocalityOrNone, isNode, isReferenceOrNone, keyOf, keyOrNone, localityOf, localityOrNone, variableOf, nodeOf};
+ghost use Rattle.names.specs.Localities.{localities, holds, joined, parted};
+
+// A slot of the net, 0..63, or none.
+pub struct Key(pub u8);
+
+// A place of the net, 0..31, or none.
+pub struct Locality(pub u8);
+
+// One of a process's eight variables.
+pub struct Variable(pub u8);
+
+// A node of the script, 0..63.
+pub struct Node(pub u8);
+
+// One of a process's four references, 0..3, or none.
+pub struct Reference(pub u8);
+
+// A set of localities: bit n is locality n.
+pub struct Localities(pub u32);
+
+pub enum KeyRead {
+    Key(Key),
+    // No key, and no mark for none where that may stand.
+    Bad,
+}
+
+pub enum LocalityRead {
+    Locality(Locality),
+    Bad,
+}
+
+pub enum VariableRead {
+    Variable(Variable),
+    Bad,
+}
+
+pub enum NodeRead {
+    Node(Node),
+    Bad,
+}
+
+// A byte below a count, or the mark for none.
+fn below_or_none(b: u8, count: u8) -> bool
+    ensures { λ r. ⌜ r ≡ belowOrNone count b ⌝ }
+{
+    if b == 255 {
+        return true;
+    }
+    b < count
+}
+
+impl Key {
+    pub const NONE: Key = Key(255);
+    pub const COUNT: usize = 64;
+    const LIMIT: u8 = 64;
+
+    pub fn of_byte(b: u8) -> KeyRead
+        ensures { λ r. ⌜ r ≡ keyOf b ⌝ }
+    {
+        if b < Key::LIMIT {
+            KeyRead::Key(Key(b))
+        } else {
+            KeyRead::Bad
+        }
+    }
+
+    pub fn or_none(b: u8) -> KeyRead
+        ensures { λ r. ⌜ r ≡ keyOrNone b ⌝ }
+    {
+        if below_or_none(b, Key::LIMIT) {
+            KeyRead::Key(Key(b))
+        } else {
+            KeyRead::Bad
+        }
+    }
+
+    pub fn is_key(self) -> bool
+        ensures { λ r. ⌜ r ≡ isKey self ⌝ }
+    {
+        self.0 < Key::LIMIT
+    }
+
+    pub fn is_key_or_none(self) -> bool
+        ensures { λ r. ⌜ r ≡ isKeyOrNone self ⌝ }
+    {
+        below_or_none(self.0, Key::LIMIT)
+    }
+}
+
+impl Locality {
+    pub const NONE: Locality = Locality(255);
+    pub const COUNT: usize = 32;
+    // Localities below this one are never made; a literal names one of these.
+    pub const FIRST_MADE: u8 = 8;
+    const LIMIT: u8 = 32;
+
+    pub fn of_byte(b: u8) -> LocalityRead
+        ensures { λ r. ⌜ r ≡ localityOf b ⌝ }
+    {
+        if b < Locality::LIMIT {
+            LocalityRead::Locality(Locality(b))
+        } else {
+            LocalityRead::Bad
+        }
+    }
+
+    pub fn or_none(b: u8) -> LocalityRead
+        ensures { λ r. ⌜ r ≡ localityOrNone b ⌝ }
+    {
+        if below_or_none(b, Locality::LIMIT) {
+            LocalityRead::Locality(Locality(b))
+        } else {
+            LocalityRead::Bad
+        }
+    }
+
+    pub fn is_locality(self) -> bool
+        ensures { λ r. ⌜ r ≡ isLocality self ⌝ }
+    {
+        self.0 < Locality::LIMIT
+    }
+
+    pub fn is_locality_or_none(self) -> bool
+        ensures { λ r. ⌜ r ≡ isLocalityOrNone self ⌝ }
+    {
+        below_or_none(self.0, Locality::LIMIT)
+    }
+}
+
+impl Variable {
+    pub const COUNT: usize = 8;
+    const LIMIT: u8 = 8;
+
+    pub fn of_byte(b: u8) -> VariableRead
+        ensures { λ r. ⌜ r ≡ variableOf b ⌝ }
+    {
+        if b < Variable::LIMIT {
+            VariableRead::Variable(Variable(b))
+        } else {
+            VariableRead::Bad
+        }
+    }
+}
+
+impl Node {
+    pub const COUNT: usize = 64;
+    const LIMIT: u8 = 64;
+
+    pub fn of_byte(b: u8) -> NodeRead
+        ensures { λ r. ⌜ r ≡ nodeOf b ⌝ }
+    {
+        if b < Node::LIMIT {
+            NodeRead::Node(Node(b))
+        } else {
+            NodeRead::Bad
+        }
+    }
+
+    pub fn is_node(self) -> bool
+        ensures { λ r. ⌜ r ≡ isNode self ⌝ }
+    {
+        self.0 < Node::LIMIT
+    }
+}
+
+impl Reference {
+    pub const NONE: Reference = Reference(255);
+    pub const COUNT: usize = 4;
+    const LIMIT: u8 = 4;
+
+    pub fn is_reference_or_none(self) -> bool
+        ensures { λ r. ⌜ r ≡ isReferenceOrNone self ⌝ }
+    {
+        below_or_none(self.0, Reference::LIMIT)
+    }
+}
+
+impl Localities {
+    pub const EMPTY: Localities = Localities(0);
+
+    pub fn has(self, l: Locality) -> bool
+        requires { ⌜ l .0 < 32 ⌝ }
+        ensures { λ r. ⌜ r ≡ holds self l ⌝ }
+    {
+        (self.0 >> l.0) & 1 == 1
+    }
+
+    pub fn with(self, l: Locality) -> Localities
+        requires { ⌜ l .0 < 32 ⌝ }
+        ensures { λ r. ⌜ r ≡ joined self l ⌝ }
+    {
+        Localities(self.0 | (1 << l.0))
+    }
+
+    pub fn without(self, l: Locality) -> Localities
+        requires { ⌜ l .0 < 32 ⌝ }
+        ensures { λ r. ⌜ r ≡ parted self l ⌝ }
+    {
+        Localities(self.0 & !(1 << l.0))
+    }
+}
