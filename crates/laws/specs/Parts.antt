@@ -1,11 +1,13 @@
 -- A list in parts of one length: put together (`flat`), and cut again.
 -- In order: `flat`; its length; a part of what was put together (`part-flat`); what was cut, put together (`flat-parts`); a list in
--- front and the parts after it (`whole`); how a list is filled from its front, one part after the other (`filled-more`, `filled-all`).
+-- front and the parts after it (`whole`); a list is its pieces (`pieces-three`, `pieces-four`); parts of a list lent one after the other, from its front (`put`, `front-put`, `put-two`,
+-- `put-four`); one part more (`flat-more`); how many elements a part has (`part-size`).
 -- Assumes nothing.
 use mathlib.Core.Path.{_≡_, refl, ap, ap₂, sym, _∙_, subst}
 use mathlib.Core.List.{List, [], _∷_, _++_, append-nil, append-assoc}
 use Prim.Native.Nat.{ℕ, zero, suc, _+_, _-_, _*_, _<_, _≤_, suc-le-suc}
 use native.Mathlib.Nat.{add-zero, zero-add, mul-zero, mul-suc, add-comm, add-assoc, le-of-suc-le-suc, not-suc-le-zero}
+use native.Mathlib.Numerals.{add-one}
 use native.Mathlib.Omega.{arith}
 use lib.ListN.{length, take, drop, length-append, length-drop, take-append-drop, drop-of-length-le}
 use lib.Seq.{take-at, drop-append-add, drop-drop, take-add, take-all, length-take-le, take-append-le}
@@ -49,7 +51,7 @@ module _ {A : Type 0} where
   flat-parts c (suc k) a l =
       let first : take c (drop (a + c * 0) l) ≡ take c (drop a l) = rw (mul-zero c, add-zero a) in
       let rest : flat (tab k (λ i. take c (drop (a + c * suc i) l))) ≡ take (c * k) (drop (a + c) l) =
-          ap flat (tab-ext k _ (λ i. take c (drop (a + c + c * i) l)) (λ i q. ap (λ (n : ℕ). take c (drop n l)) (shift i))) ∙ flat-parts c k (a + c) l in
+      ap flat (tab-ext k _ (λ i. take c (drop (a + c + c * i) l)) (λ i q. ap (λ (n : ℕ). take c (drop n l)) (shift i))) ∙ flat-parts c k (a + c) l in
       ap₂ (λ x y. x ++ y) first (rest ∙ ap (take (c * k)) (sym (drop-drop c a l))) ∙ sym (take-add c (c * k) (drop a l)) ∙
       ap (λ (n : ℕ). take n (drop a l)) (add-comm c (c * k) ∙ sym (mul-suc c k))
     where
@@ -62,10 +64,99 @@ module _ {A : Type 0} where
       ap (λ (r : List A). take a l ++ r)
       (flat-parts c k a l ∙ take-all (c * k) (drop a l) (simp length-drop (omega arith))) ∙ take-append-drop a l
 
-  -- ---- filling from the front: the k elements from a on are replaced by ys, and what stands before a stays
+  -- a list is its pieces
+  pub pieces-three : (a b c : ℕ) (l : List A) → length l ≡ a + b + c → take a l ++ (take b (drop a l) ++ take c (drop (a + b) l)) ≡ l
+  pieces-three a b c l e =
+      let last : take c (drop (a + b) l) ≡ drop b (drop a l) =
+      take-all c (drop (a + b) l) (simp length-drop (omega arith)) ∙ sym (drop-drop b a l) in
+      rw (last, take-append-drop b (drop a l)) (take-append-drop a l)
 
-  pub filled-more : (a k : ℕ) (xs ys front : List A) → a ≤ length xs → length ys ≡ k → take a xs ≡ front → take (a + k) (take a xs ++ (ys ++ drop k (drop a xs))) ≡ front ++ ys
-  filled-more a k xs ys front h e f =
+  pub pieces-four : (a b c d : ℕ) (l : List A) → length l ≡ a + b + c + d → take a l ++ (take b (drop a l) ++ (take c (drop (a + b) l) ++ take d (drop (a + b + c) l))) ≡ l
+  pieces-four a b c d l e =
+      let last : take c (drop (a + b) l) ++ take d (drop (a + b + c) l) ≡ take (c + d) (drop (a + b) l) =
+      ap (λ (r : List A). take c (drop (a + b) l) ++ take d r) (sym (drop-drop c (a + b) l)) ∙ sym (take-add c d (drop (a + b) l)) in
+      rw last (pieces-three a b (c + d) l (omega arith))
+
+  -- ---- parts that are lent one after the other, from the front
+  -- what a list holds once the k elements from a on were lent and came back as ys
+  abbrev pub put : ℕ → ℕ → List A → List A → List A
+  put a k xs ys = take a xs ++ (ys ++ drop k (drop a xs))
+
+  pub length-put : (a k : ℕ) (xs ys : List A) → a + k ≤ length xs → length ys ≡ k → length (put a k xs ys) ≡ length xs
+  length-put a k xs ys h e =
+      length-append (take a xs) (ys ++ drop k (drop a xs)) ∙
+      ap₂ (λ m n. m + n) (length-take-le a xs (omega arith))
+      (length-append ys (drop k (drop a xs)) ∙ ap₂ (λ m n. m + n) e (length-drop k (drop a xs) ∙ ap (λ (n : ℕ). n - k) (length-drop a xs))) ∙
+      omega arith
+
+  -- the front grows by what came back
+  pub front-put : (a k : ℕ) (xs ys front : List A) → take a xs ≡ front → a ≤ length xs → length ys ≡ k → take (a + k) (put a k xs ys) ≡ front ++ ys
+  front-put a k xs ys front f h e =
       ap (take (a + k)) (sym (append-assoc (take a xs) ys (drop k (drop a xs)))) ∙
       take-at (take a xs ++ ys) (drop k (drop a xs)) (a + k)
       (length-append (take a xs) ys ∙ ap₂ (λ m n. m + n) (length-take-le a xs h) e) ∙ ap (λ (r : List A). r ++ ys) f
+
+  -- two parts and four parts that fill the list
+  pub put-two : (k₀ k₁ : ℕ) (xs y₀ y₁ x₀ x₁ : List A) → length xs ≡ k₀ + k₁ → y₀ ≡ x₀ → y₁ ≡ x₁ → length x₀ ≡ k₀ → length x₁ ≡ k₁ → put k₀ k₁ (put 0 k₀ xs y₀) y₁ ≡ x₀ ++ x₁
+  put-two k₀ k₁ xs y₀ y₁ x₀ x₁ h e₀ e₁ l₀ l₁ =
+      let m₀ : length y₀ ≡ k₀ = ap length e₀ ∙ l₀ in
+      let m₁ : length y₁ ≡ k₁ = ap length e₁ ∙ l₁ in
+      let n₀ : length (put 0 k₀ xs y₀) ≡ length xs = length-put 0 k₀ xs y₀ (omega arith) m₀ in
+      let n₁ : length (put k₀ k₁ (put 0 k₀ xs y₀) y₁) ≡ length xs = length-put k₀ k₁ (put 0 k₀ xs y₀) y₁ (omega arith) m₁ ∙ n₀ in
+      let f₀ : take k₀ (put 0 k₀ xs y₀) ≡ y₀ = take-at y₀ _ k₀ m₀ in
+      let f₁ = front-put k₀ k₁ (put 0 k₀ xs y₀) y₁ y₀ f₀ (omega arith) m₁ in
+      sym (take-all (k₀ + k₁) (put k₀ k₁ (put 0 k₀ xs y₀) y₁) (omega arith)) ∙ f₁ ∙ ap₂ (λ a b. a ++ b) e₀ e₁
+
+  pub put-four : (k₀ k₁ k₂ k₃ : ℕ) (xs y₀ y₁ y₂ y₃ x₀ x₁ x₂ x₃ : List A) → length xs ≡ k₀ + k₁ + k₂ + k₃ → y₀ ≡ x₀ → y₁ ≡ x₁ → y₂ ≡ x₂ → y₃ ≡ x₃ → length x₀ ≡ k₀ → length x₁ ≡ k₁ → length x₂ ≡ k₂ → length x₃ ≡ k₃ → put (k₀ + k₁ + k₂) k₃ (put (k₀ + k₁) k₂ (put k₀ k₁ (put 0 k₀ xs y₀) y₁) y₂) y₃ ≡ x₀ ++ (x₁ ++ (x₂ ++ x₃))
+  put-four k₀ k₁ k₂ k₃ xs y₀ y₁ y₂ y₃ x₀ x₁ x₂ x₃ h e₀ e₁ e₂ e₃ l₀ l₁ l₂ l₃ =
+      let m₀ : length y₀ ≡ k₀ = ap length e₀ ∙ l₀ in
+      let m₁ : length y₁ ≡ k₁ = ap length e₁ ∙ l₁ in
+      let m₂ : length y₂ ≡ k₂ = ap length e₂ ∙ l₂ in
+      let m₃ : length y₃ ≡ k₃ = ap length e₃ ∙ l₃ in
+      let p₀ : List A = put 0 k₀ xs y₀ in
+      let p₁ : List A = put k₀ k₁ p₀ y₁ in
+      let p₂ : List A = put (k₀ + k₁) k₂ p₁ y₂ in
+      let p₃ : List A = put (k₀ + k₁ + k₂) k₃ p₂ y₃ in
+      let n₀ : length p₀ ≡ length xs = length-put 0 k₀ xs y₀ (omega arith) m₀ in
+      let n₁ : length p₁ ≡ length xs = length-put k₀ k₁ p₀ y₁ (omega arith) m₁ ∙ n₀ in
+      let n₂ : length p₂ ≡ length xs = length-put (k₀ + k₁) k₂ p₁ y₂ (omega arith) m₂ ∙ n₁ in
+      let n₃ : length p₃ ≡ length xs = length-put (k₀ + k₁ + k₂) k₃ p₂ y₃ (omega arith) m₃ ∙ n₂ in
+      let f₀ : take k₀ p₀ ≡ y₀ = take-at y₀ _ k₀ m₀ in
+      let f₁ : take (k₀ + k₁) p₁ ≡ y₀ ++ y₁ = front-put k₀ k₁ p₀ y₁ y₀ f₀ (omega arith) m₁ in
+      let f₂ : take (k₀ + k₁ + k₂) p₂ ≡ y₀ ++ y₁ ++ y₂ = front-put (k₀ + k₁) k₂ p₁ y₂ (y₀ ++ y₁) f₁ (omega arith) m₂ in
+      let f₃ : take (k₀ + k₁ + k₂ + k₃) p₃ ≡ y₀ ++ y₁ ++ y₂ ++ y₃ = front-put (k₀ + k₁ + k₂) k₃ p₂ y₃ (y₀ ++ y₁ ++ y₂) f₂ (omega arith) m₃ in
+      sym (take-all (k₀ + k₁ + k₂ + k₃) p₃ (omega arith)) ∙ f₃ ∙ rw (e₀, e₁, e₂, e₃) (simp append-assoc)
+
+  -- one part more of a table's parts
+  flat-suc : (k : ℕ) (g : ℕ → List A) → flat (tab (suc k) g) ≡ flat (tab k g) ++ g k
+  unfolding flat tab
+  flat-suc zero g = append-nil (g 0)
+  flat-suc (suc k) g =
+      ap (λ (r : List A). g 0 ++ r) (flat-suc k (λ i. g (suc i))) ∙
+      sym (append-assoc (g 0) (flat (tab k (λ i. g (suc i)))) (g (suc k)))
+
+  pub flat-more : (k : ℕ) (g : ℕ → List A) → flat (tab (k + 1) g) ≡ flat (tab k g) ++ g k
+  flat-more k g = rw (add-one k) (flat-suc k g)
+
+-- the code's `&b[a..a + k]` has k elements
+pub part-size : (a k : ℕ) → a + k - a ≡ k
+part-size a k = omega arith
+
+module _ {A : Type 0} where
+  -- a turn of the loop that fills a list with parts of c elements: part j was lent as `&mut xs[at..at + c]`, and came back as ys
+  pub length-turn : (at c : ℕ) (xs ys zs : List A) → at + c ≤ length xs → ys ≡ zs → length zs ≡ c → length (put at (at + c - at) xs ys) ≡ length xs
+  length-turn at c xs ys zs h e l = rw (part-size at c) (length-put at c xs ys h (ap length e ∙ l))
+
+  pub front-turn : (at c j : ℕ) (g : ℕ → List A) (front xs ys : List A) → at + c ≤ length xs → length (g j) ≡ c → ys ≡ g j → take at xs ≡ front ++ flat (tab j g) → take (at + c) (put at (at + c - at) xs ys) ≡ front ++ flat (tab (j + 1) g)
+  front-turn at c j g front xs ys h l e f =
+      rw (part-size at c)
+      (front-put at c xs ys (front ++ flat (tab j g)) f (omega arith) (ap length e ∙ l) ∙ append-assoc front (flat (tab j g)) ys ∙
+      ap (λ (r : List A). front ++ r) (ap (λ (y : List A). flat (tab j g) ++ y) e ∙ sym (flat-more j g)))
+
+  -- before the first turn: the front was lent as `&mut xs[0..k]`
+  pub length-first : (k : ℕ) (xs ys zs : List A) → k ≤ length xs → ys ≡ zs → length zs ≡ k → length (put 0 k xs ys) ≡ length xs
+  length-first k xs ys zs h e l = length-put 0 k xs ys (omega arith) (ap length e ∙ l)
+
+  pub front-first : (k : ℕ) (g : ℕ → List A) (xs ys zs : List A) → ys ≡ zs → length zs ≡ k → take k (put 0 k xs ys) ≡ zs ++ flat (tab 0 g)
+  unfolding flat tab
+  front-first k g xs ys zs e l = take-at ys (drop k xs) k (ap length e ∙ l) ∙ e ∙ sym (append-nil zs)

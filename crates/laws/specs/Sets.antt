@@ -114,8 +114,8 @@ same-bits (suc w) s t hs ht e =
     let p : 2 ^ suc w ≡ 2 ^ w * 2 = pow-suc 2 w in
     let low : s % 2 ≡ t % 2 = sym (bit-zero s) ∙ e 0 (omega arith) ∙ bit-zero t in
     let high : s / 2 ≡ t / 2 =
-        same-bits w (s / 2) (t / 2) (omega arith) (omega arith)
-        (λ n h. sym (bit-suc s n) ∙ e (suc n) (omega arith) ∙ bit-suc t n) in
+    same-bits w (s / 2) (t / 2) (omega arith) (omega arith)
+    (λ n h. sym (bit-suc s n) ∙ e (suc n) (omega arith) ∙ bit-suc t n) in
     omega arith
 
 -- ---- members

@@ -1,12 +1,13 @@
 -- A number as its little-endian bytes, at any width.
--- In order: `bytesOf` and `number`; each undoes the other (`number-bytes`, `bytes-number`); a word is four bytes (`word`, `wordAt`).
+-- In order: `bytesOf` and `number`; each undoes the other (`number-bytes`, `bytes-number`); bytes in a part; a word is four bytes (`word`,
+-- `wordAt`), read (`wordAt-bytes`) and written (`word-wordAt`).
 -- Assumes nothing.
 use mathlib.Core.Path.{_≡_, refl, ap, ap₂, sym, _∙_}
 use mathlib.Core.List.{List, [], _∷_, _++_}
 use Prim.Native.Nat.{ℕ, zero, suc, _+_, _*_, _/_, _%_, _^_, _<_, _≤_, suc-le-suc}
-use native.Mathlib.Nat.{pow-suc, pow-zero, add-zero}
+use native.Mathlib.Nat.{pow-suc, pow-zero, add-zero, le-of-suc-le-suc, not-suc-le-zero}
 use native.Mathlib.Omega.{arith}
-use lib.ListN.{length, getD, take, drop, length-drop}
+use lib.ListN.{length, getD, take, drop, length-take, length-drop}
 use lib.Seq.{length-take-le, getD-drop}
 use Rattle.laws.specs.Lists.{tab, tab-part}
 
@@ -46,13 +47,15 @@ bytes-number (b ∷ l) h =
     let high : (b + number l * 256) / 256 ≡ number l = omega arith in
     ap₂ (λ x y. x ∷ y) low (ap (bytesOf (length l)) high ∙ bytes-number l (λ i. h (suc i)))
 
-pub number-lt : (l : List ℕ) → Bytes l → number l < 256 ^ length l
+pub number-lt : (k : ℕ) (l : List ℕ) → length l ≤ k → Bytes l → number l < 256 ^ k
 unfolding number
-number-lt [] h = omega (arith, pow-zero 256)
-number-lt (b ∷ l) h =
-    let p : 256 ^ suc (length l) ≡ 256 ^ length l * 256 = pow-suc 256 (length l) in
+number-lt zero [] e h = omega (arith, pow-zero 256)
+number-lt zero (b ∷ l) e h = absurd (not-suc-le-zero e)
+number-lt (suc k) [] e h = omega (arith, pow-suc 256 k, number-lt k [] (omega arith) h)
+number-lt (suc k) (b ∷ l) e h =
+    let p : 256 ^ suc k ≡ 256 ^ k * 256 = pow-suc 256 k in
     let q : b < 256 = h 0 in
-    let r : number l < 256 ^ length l = number-lt l (λ i. h (suc i)) in
+    let r : number l < 256 ^ k = number-lt k l (le-of-suc-le-suc e) (λ i. h (suc i)) in
     omega arith
 
 -- bytes stay bytes in a part
@@ -86,3 +89,8 @@ unfolding wordAt
 word-wordAt l at b h =
     let e : length (take 4 (drop at l)) ≡ 4 = length-take-le 4 (drop at l) (simp length-drop (omega arith)) in
     rw e at (bytes-number (take 4 (drop at l)) (bytes-take 4 (drop at l) (bytes-drop at l b)))
+
+pub wordAt-lt : (l : List ℕ) (at : ℕ) → Bytes l → wordAt l at < 256 ^ 4
+unfolding wordAt
+wordAt-lt l at b =
+    number-lt 4 (take 4 (drop at l)) (omega (arith, length-take 4 (drop at l))) (bytes-take 4 (drop at l) (bytes-drop at l b))

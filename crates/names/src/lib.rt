@@ -3,8 +3,11 @@
 ghost use mathlib.Core.Path.{_≡_};
 ghost use Prim.Native.Nat.{_<_};
 ghost use lib.Dec.{ltb};
-ghost use Rattle.names.specs.Names.{key, locality, reference, none, belowOrNone, isKey, isKeyOrNone, isLocality, isLocalityOrNone, isNode, isReferenceOrNone, keyOf, keyOrNone, localityOf, localityOrNone, variableOf, nodeOf};
+ghost use Rattle.names.specs.Names.{localityCount, belowOrNone, isKey, isKeyOrNone, isLocality, isLocalityOrNone, isNode, isReferenceOrNone, keyOf, keyOrNone, localityOf, localityOrNone, variableOf, nodeOf};
 ghost use Rattle.names.specs.Localities.{localities, holds, joined, parted};
+
+// The mark for none, where that may stand.
+pub const NONE: u8 = 255;
 
 // A slot of the net, 0..63, or none.
 pub struct Key(pub u8);
@@ -49,15 +52,17 @@ pub enum NodeRead {
 fn below_or_none(b: u8, count: u8) -> bool
     ensures { λ r. ⌜ r ≡ belowOrNone count b ⌝ }
 {
-    if b == 255 {
+    if b == NONE {
         return true;
     }
     b < count
 }
 
 impl Key {
-    pub const NONE: Key = Key(255);
+    pub const NONE: Key = Key(NONE);
+
     pub const COUNT: usize = 64;
+
     const LIMIT: u8 = 64;
 
     pub fn of_byte(b: u8) -> KeyRead
@@ -94,10 +99,12 @@ impl Key {
 }
 
 impl Locality {
-    pub const NONE: Locality = Locality(255);
+    pub const NONE: Locality = Locality(NONE);
+
     pub const COUNT: usize = 32;
     // Localities below this one are never made; a literal names one of these.
     pub const FIRST_MADE: u8 = 8;
+
     const LIMIT: u8 = 32;
 
     pub fn of_byte(b: u8) -> LocalityRead
@@ -126,6 +133,13 @@ impl Locality {
         self.0 < Locality::LIMIT
     }
 
+    // Whether a number of 32 bits is a locality's.
+    pub fn is_number(x: u32) -> bool
+        ensures { λ r. ⌜ r ≡ ltb x localityCount ⌝ }
+    {
+        x < Locality::LIMIT as u32
+    }
+
     pub fn is_locality_or_none(self) -> bool
         ensures { λ r. ⌜ r ≡ isLocalityOrNone self ⌝ }
     {
@@ -135,6 +149,7 @@ impl Locality {
 
 impl Variable {
     pub const COUNT: usize = 8;
+
     const LIMIT: u8 = 8;
 
     pub fn of_byte(b: u8) -> VariableRead
@@ -150,6 +165,7 @@ impl Variable {
 
 impl Node {
     pub const COUNT: usize = 64;
+
     const LIMIT: u8 = 64;
 
     pub fn of_byte(b: u8) -> NodeRead
@@ -170,8 +186,10 @@ impl Node {
 }
 
 impl Reference {
-    pub const NONE: Reference = Reference(255);
+    pub const NONE: Reference = Reference(NONE);
+
     pub const COUNT: usize = 4;
+
     const LIMIT: u8 = 4;
 
     pub fn is_reference_or_none(self) -> bool

@@ -1,0 +1,521 @@
+// The net image, taken apart and put together.
+ghost use mathlib.Core.Path.{_≡_};
+ghost use mathlib.Core.Bool.{_&&_};
+ghost use mathlib.Core.List.{[], _∷_, _++_};
+ghost use Prim.Native.Nat.{_+_, _<_, _≤_};
+ghost use lib.ListN.{length, getD};
+ghost use Rattle.laws.specs.Choice.{pick};
+ghost use Rattle.laws.specs.Lists.{tab};
+ghost use Rattle.laws.specs.Parts.{flat};
+ghost use Rattle.laws.specs.Words.{word};
+ghost use Rattle.names.specs.Names.{key, node};
+ghost use Rattle.images.specs.Head.{byte, partAt, restZero, pairBytes};
+ghost use Rattle.images.specs.Net.{datum0, isTuple, nodeOrCount, firstBytes, slotBytes, netBytes, netWritten, writtenInto, isUnset, isSet, isDatum, variablesInRange, fieldOrBlank, dataFill, madeAre, refsAre, madeInRange, refsInRange, freeInRange, processInRange, tupleInRange, slotInRange, freeSlot};
+ghost use Rattle.images.specs.Read.{datumOf, slotOf, slotsFormed, netOf, goodNet, badNet, readNet};
+use super::Datum;
+use super::Form;
+use super::Net;
+use super::NetRead;
+use super::Slot;
+use super::Written;
+use super::head::head_formed;
+use super::head::rest_is_zero;
+use super::head::write_head;
+use names::Key;
+use names::Localities;
+use names::Locality;
+use names::NONE;
+use names::Node;
+use names::Reference;
+use names::Variable;
+
+pub const SIZE: usize = 3600;
+
+const SLOT_SIZE: usize = 56;
+
+// ---- a slot taken apart
+
+fn datum_of(p: &[u8], j: usize) -> Datum
+    requires { ⌜ (length (now p) ≡ 56) × (j < 8) ⌝ }
+    ensures { λ r. ⌜ r ≡ datumOf (now (p .entry)) j ⌝ }
+{
+    let number = laws::word_at(p, 16 + 4 * j);
+    Datum {
+        tag: p[8 + j],
+        number,
+    }
+}
+
+fn contents_of(p: &[u8]) -> [Datum; Variable::COUNT]
+    requires { ⌜ length (now p) ≡ 56 ⌝ }
+    ensures { λ r. ⌜ r ≡ tab 8 (datumOf (now (p .entry))) ⌝ }
+{
+    let d0 = datum_of(p, 0);
+    let d1 = datum_of(p, 1);
+    let d2 = datum_of(p, 2);
+    let d3 = datum_of(p, 3);
+    let d4 = datum_of(p, 4);
+    let d5 = datum_of(p, 5);
+    let d6 = datum_of(p, 6);
+    let d7 = datum_of(p, 7);
+    [d0, d1, d2, d3, d4, d5, d6, d7]
+}
+
+fn refs_of(p: &[u8]) -> [Key; Reference::COUNT]
+    requires { ⌜ length (now p) ≡ 56 ⌝ }
+    ensures { λ r. ⌜ r ≡ tab 4 (λ j. key (byte (now (p .entry)) (48 + j))) ⌝ }
+{
+    [Key(p[48]), Key(p[49]), Key(p[50]), Key(p[51])]
+}
+
+// Byte 2 is a process's node, and a tuple's field count.
+fn node_of(kind: u8, b: u8) -> Node
+    ensures { λ r. ⌜ r ≡ node (pick (isTuple kind) 0 b) ⌝ }
+{
+    if Slot::TUPLE <= kind {
+        return Node(0);
+    }
+    Node(b)
+}
+
+fn count_of(kind: u8, b: u8) -> u8
+    ensures { λ r. ⌜ r ≡ pick (isTuple kind) b 0 ⌝ }
+{
+    if Slot::TUPLE <= kind {
+        return b;
+    }
+    0
+}
+
+fn slot_of(p: &[u8]) -> Slot
+    requires { ⌜ length (now p) ≡ 56 ⌝ }
+    ensures { λ r. ⌜ r ≡ slotOf (now (p .entry)) ⌝ }
+{
+    let contents = contents_of(p);
+    let refs = refs_of(p);
+    let node = node_of(p[0], p[2]);
+    let count = count_of(p[0], p[2]);
+    Slot {
+        kind: p[0],
+        locality: Locality(p[1]),
+        node,
+        count,
+        first: Key(p[3]),
+        second: Key(p[4]),
+        used: Key(p[5]),
+        place: Locality(p[6]),
+        contents,
+        refs,
+    }
+}
+
+// ---- ranges
+
+fn is_unset(d: Datum) -> bool
+    ensures { λ r. ⌜ r ≡ isUnset d ⌝ }
+{
+    d.tag == Datum::UNSET && d.number == 0
+}
+
+fn is_set(d: Datum) -> bool
+    ensures { λ r. ⌜ r ≡ isSet d ⌝ }
+{
+    if d.tag == Datum::VALUE {
+        return true;
+    }
+    d.tag == Datum::LOCALITY && Locality::is_number(d.number)
+}
+
+fn is_datum(d: Datum) -> bool
+    ensures { λ r. ⌜ r ≡ isDatum d ⌝ }
+{
+    if d.tag == Datum::UNSET {
+        return d.number == 0;
+    }
+    is_set(d)
+}
+
+fn variables_in_range(contents: [Datum; Variable::COUNT]) -> bool
+    ensures { λ r. ⌜ r ≡ variablesInRange contents ⌝ }
+{
+    let mut j: usize = 0;
+    while j < Variable::COUNT {
+        let d = contents[j];
+        if !is_datum(d) {
+            return false;
+        }
+        j += 1;
+    }
+    true
+}
+
+fn field_or_blank(count: u8, j: u8, d: Datum) -> bool
+    ensures { λ r. ⌜ r ≡ fieldOrBlank count j d ⌝ }
+{
+    if j < count {
+        return is_set(d);
+    }
+    is_unset(d)
+}
+
+// The first so many are set, and the others blank.
+fn data_fill(count: u8, contents: [Datum; Variable::COUNT]) -> bool
+    ensures { λ r. ⌜ r ≡ dataFill count contents ⌝ }
+{
+    let mut j: u8 = 0;
+    while j < 8 {
+        let d = contents[j as usize];
+        if !field_or_blank(count, j, d) {
+            return false;
+        }
+        j += 1;
+    }
+    true
+}
+
+// What a slot made and used is this byte four times: 255 where nothing is held, and 0 in a free slot.
+fn made_are(b: u8, s: Slot) -> bool
+    ensures { λ r. ⌜ r ≡ madeAre b s ⌝ }
+{
+    if s.first.0 != b {
+        return false;
+    }
+    if s.second.0 != b {
+        return false;
+    }
+    s.used.0 == b && s.place.0 == b
+}
+
+fn refs_are(b: u8, refs: [Key; Reference::COUNT]) -> bool
+    ensures { λ r. ⌜ r ≡ refsAre b refs ⌝ }
+{
+    let mut j: usize = 0;
+    while j < Reference::COUNT {
+        let k = refs[j];
+        if k.0 != b {
+            return false;
+        }
+        j += 1;
+    }
+    true
+}
+
+fn made_in_range(s: Slot) -> bool
+    ensures { λ r. ⌜ r ≡ madeInRange s ⌝ }
+{
+    let first = s.first;
+    if !first.is_key_or_none() {
+        return false;
+    }
+    let second = s.second;
+    if !second.is_key_or_none() {
+        return false;
+    }
+    let used = s.used;
+    if !used.is_key_or_none() {
+        return false;
+    }
+    let place = s.place;
+    place.is_locality_or_none()
+}
+
+fn refs_in_range(refs: [Key; Reference::COUNT]) -> bool
+    ensures { λ r. ⌜ r ≡ refsInRange refs ⌝ }
+{
+    let mut j: usize = 0;
+    while j < Reference::COUNT {
+        let k = refs[j];
+        if !k.is_key_or_none() {
+            return false;
+        }
+        j += 1;
+    }
+    true
+}
+
+fn free_in_range(s: Slot) -> bool
+    ensures { λ r. ⌜ r ≡ freeInRange s ⌝ }
+{
+    if s.locality.0 != 0 {
+        return false;
+    }
+    if s.node.0 != 0 {
+        return false;
+    }
+    if s.count != 0 {
+        return false;
+    }
+    if !made_are(0, s) {
+        return false;
+    }
+    let refs = s.refs;
+    if !refs_are(0, refs) {
+        return false;
+    }
+    let contents = s.contents;
+    data_fill(0, contents)
+}
+
+fn process_in_range(s: Slot) -> bool
+    ensures { λ r. ⌜ r ≡ processInRange s ⌝ }
+{
+    let locality = s.locality;
+    if !locality.is_locality() {
+        return false;
+    }
+    let node = s.node;
+    if !node.is_node() {
+        return false;
+    }
+    if s.count != 0 {
+        return false;
+    }
+    let refs = s.refs;
+    if !refs_in_range(refs) {
+        return false;
+    }
+    let contents = s.contents;
+    variables_in_range(contents)
+}
+
+fn tuple_in_range(s: Slot) -> bool
+    ensures { λ r. ⌜ r ≡ tupleInRange s ⌝ }
+{
+    let locality = s.locality;
+    if !locality.is_locality() {
+        return false;
+    }
+    if s.node.0 != 0 {
+        return false;
+    }
+    if s.count < 1 {
+        return false;
+    }
+    if 4 < s.count {
+        return false;
+    }
+    if !made_are(NONE, s) {
+        return false;
+    }
+    let refs = s.refs;
+    if !refs_are(NONE, refs) {
+        return false;
+    }
+    let contents = s.contents;
+    data_fill(s.count, contents)
+}
+
+fn slot_in_range(s: Slot) -> bool
+    ensures { λ r. ⌜ r ≡ slotInRange s ⌝ }
+{
+    if s.kind == Slot::FREE {
+        return free_in_range(s);
+    }
+    if s.kind == Slot::LIVE {
+        if !made_are(NONE, s) {
+            return false;
+        }
+        return process_in_range(s);
+    }
+    if s.kind == Slot::PAST {
+        if !made_in_range(s) {
+            return false;
+        }
+        return process_in_range(s);
+    }
+    if Slot::CONSUMED < s.kind {
+        return false;
+    }
+    tuple_in_range(s)
+}
+
+// ---- reading
+
+// Slot i of an image.
+fn slot_at(b: &[u8], i: usize) -> Slot
+    requires { ⌜ (length (now b) ≡ 3600) × (i < 64) ⌝ }
+    ensures { λ r. ⌜ r ≡ slotOf (partAt 56 (now (b .entry)) i) ⌝ }
+{
+    let at = 16 + SLOT_SIZE * i;
+    slot_of(&b[at..at + SLOT_SIZE])
+}
+
+// Slot i of an image, which is read as s: the bytes that no slot uses, and the range.
+fn slot_formed(b: &[u8], i: usize, s: Slot) -> bool
+    requires { ⌜ (length (now b) ≡ 3600) × (i < 64) ⌝ }
+    ensures { λ r. ⌜ r ≡ (restZero 56 (partAt 56 (now (b .entry)) i) && slotInRange s) ⌝ }
+{
+    let at = 16 + SLOT_SIZE * i;
+    if !rest_is_zero(&b[at..at + SLOT_SIZE], SLOT_SIZE) {
+        return false;
+    }
+    slot_in_range(s)
+}
+
+pub fn free_slot() -> Slot
+    ensures { λ r. ⌜ r ≡ freeSlot ⌝ }
+{
+    Slot {
+        kind: Slot::FREE,
+        locality: Locality(0),
+        node: Node(0),
+        count: 0,
+        first: Key(0),
+        second: Key(0),
+        used: Key(0),
+        place: Locality(0),
+        contents: [Datum {
+            tag: Datum::UNSET,
+            number: 0,
+        }; Variable::COUNT],
+        refs: [Key(0); Reference::COUNT],
+    }
+}
+
+fn refused() -> NetRead
+    ensures { λ r. ⌜ r ≡ badNet ⌝ }
+{
+    let s = free_slot();
+    let net = Net {
+        present: Localities::EMPTY,
+        slots: [s; Key::COUNT],
+    };
+    NetRead {
+        form: Form::Bad,
+        net,
+    }
+}
+
+fn read_slots(b: &[u8]) -> NetRead
+    requires { ⌜ length (now b) ≡ 3600 ⌝ }
+    ensures { λ r. ⌜ r ≡ pick (slotsFormed (now (b .entry))) (goodNet (netOf (now (b .entry)))) badNet ⌝ }
+{
+    let blank = free_slot();
+    let mut slots = [blank; Key::COUNT];
+    let mut i: usize = 0;
+    while i < Key::COUNT {
+        let s = slot_at(b, i);
+        if !slot_formed(b, i, s) {
+            return refused();
+        }
+        slots[i] = s;
+        i += 1;
+    }
+    let present = Localities(laws::word_at(b, 8));
+    let net = Net { present, slots };
+    NetRead {
+        form: Form::Good,
+        net,
+    }
+}
+
+// Any byte string: the net that it is the writing of, or a refusal.
+pub fn read_net(b: &[u8]) -> NetRead
+    ensures { λ r. ⌜ r ≡ readNet (now (b .entry)) ⌝ }
+{
+    if b.len() != SIZE {
+        return refused();
+    }
+    if !head_formed(b, b'N') {
+        return refused();
+    }
+    read_slots(b)
+}
+
+// ---- writing, a part after the other
+
+fn node_or_count(s: Slot) -> u8
+    ensures { λ r. ⌜ r ≡ nodeOrCount s ⌝ }
+{
+    if Slot::TUPLE <= s.kind {
+        return s.count;
+    }
+    s.node.0
+}
+
+fn write_first(s: Slot, p: &mut [u8])
+    requires { ⌜ length (now p) ≡ 8 ⌝ }
+    ensures { λ _. ⌜ now (p .exit) ≡ firstBytes s ⌝ }
+{
+    let two = node_or_count(s);
+    laws::write_four(s.kind, s.locality.0, two, s.first.0, &mut p[0..4]);
+    laws::write_four(s.second.0, s.used.0, s.place.0, 0, &mut p[4..8]);
+}
+
+fn write_tags(contents: [Datum; Variable::COUNT], p: &mut [u8])
+    requires { ⌜ length (now p) ≡ 8 ⌝ }
+    ensures { λ _. ⌜ now (p .exit) ≡ tab 8 (λ j. getD contents j datum0 .tag) ⌝ }
+{
+    laws::write_four(
+        contents[0].tag,
+        contents[1].tag,
+        contents[2].tag,
+        contents[3].tag,
+        &mut p[0..4],
+    );
+    laws::write_four(
+        contents[4].tag,
+        contents[5].tag,
+        contents[6].tag,
+        contents[7].tag,
+        &mut p[4..8],
+    );
+}
+
+fn write_numbers(contents: [Datum; Variable::COUNT], p: &mut [u8])
+    requires { ⌜ length (now p) ≡ 32 ⌝ }
+    ensures { λ _. ⌜ now (p .exit) ≡ flat (tab 8 (λ j. word (getD contents j datum0 .number))) ⌝ }
+{
+    let mut j: usize = 0;
+    while j < Variable::COUNT {
+        let at = 4 * j;
+        laws::write_word(contents[j].number, &mut p[at..at + 4]);
+        j += 1;
+    }
+}
+
+// The references, and the four bytes after them that no slot uses.
+fn write_refs(refs: [Key; Reference::COUNT], p: &mut [u8])
+    requires { ⌜ length (now p) ≡ 8 ⌝ }
+    ensures { λ _. ⌜ now (p .exit) ≡ tab 4 (λ j. getD refs j (key 0) .0) ++ (0 ∷ 0 ∷ 0 ∷ 0 ∷ []) ⌝ }
+{
+    laws::write_four(refs[0].0, refs[1].0, refs[2].0, refs[3].0, &mut p[0..4]);
+    laws::write_four(0, 0, 0, 0, &mut p[4..8]);
+}
+
+fn write_slot(s: Slot, p: &mut [u8])
+    requires { ⌜ length (now p) ≡ 56 ⌝ }
+    ensures { λ _. ⌜ now (p .exit) ≡ slotBytes s ⌝ }
+{
+    let contents = s.contents;
+    let refs = s.refs;
+    write_first(s, &mut p[0..8]);
+    write_tags(contents, &mut p[8..16]);
+    write_numbers(contents, &mut p[16..48]);
+    write_refs(refs, &mut p[48..56]);
+}
+
+fn write_image(n: Net, d: &mut [u8])
+    requires { ⌜ length (now d) ≡ 3600 ⌝ }
+    ensures { λ _. ⌜ now (d .exit) ≡ netBytes n ⌝ }
+{
+    write_head(b'N', n.present.0, &mut d[0..16]);
+    let mut i: usize = 0;
+    while i < Key::COUNT {
+        let s = n.slots[i];
+        let at = 16 + SLOT_SIZE * i;
+        write_slot(s, &mut d[at..at + SLOT_SIZE]);
+        i += 1;
+    }
+}
+
+// Every lent byte is the net's, or none is changed.
+pub fn write_net(n: Net, d: &mut [u8]) -> Written
+    ensures { λ r. ⌜ (r ≡ writtenInto (now (d .entry))) × (now (d .exit) ≡ netWritten n (now (d .entry))) ⌝ }
+{
+    if d.len() != SIZE {
+        return Written::WrongLength;
+    }
+    write_image(n, d);
+    Written::Done
+}

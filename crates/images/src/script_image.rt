@@ -1,0 +1,401 @@
+// The script image, taken apart: 64 nodes, each held to the row of its kind.
+ghost use mathlib.Core.Path.{_≡_};
+ghost use Prim.Native.Nat.{_<_, _≤_};
+ghost use lib.ListN.{length, getD};
+ghost use mathlib.Core.Bool.{_&&_};
+ghost use Rattle.laws.specs.Choice.{pick};
+ghost use Rattle.images.specs.Head.{partAt, restZero};
+ghost use Rattle.images.specs.Script.{rowOf, nodeInPlace, targetInPlace, referenceInPlace, fieldInRange, isBlank, countInPlace, fieldInPlace, fieldsInPlace, sameFormal, freshFormal, formalsDistinct, placesInRow, fieldsInRow, actionInRange};
+ghost use Rattle.images.specs.Read.{fieldOf, actionOf, nodesFormed, scriptOf, nilAction, goodScript, badScript, readScript};
+use super::Action;
+use super::Field;
+use super::Form;
+use super::Row;
+use super::Script;
+use super::ScriptRead;
+use super::head::head_formed;
+use super::head::rest_is_zero;
+use names::NONE;
+use names::Node;
+use names::Reference;
+
+pub const SIZE: usize = 2064;
+
+const NODE_SIZE: usize = 32;
+
+// Document 01's table: which places each kind uses.
+const ROWS: [Row; 8] = [
+    // nil
+    Row {
+        next: false,
+        other: false,
+        target: Row::UNUSED,
+        reference: Row::UNUSED,
+        fields: 0,
+    },
+    // out
+    Row {
+        next: true,
+        other: false,
+        target: Row::GIVEN,
+        reference: Row::OPTIONAL,
+        fields: Field::VARIABLE,
+    },
+    // in
+    Row {
+        next: true,
+        other: false,
+        target: Row::GIVEN,
+        reference: Row::OPTIONAL,
+        fields: Field::LOCALITY_FORMAL,
+    },
+    // read
+    Row {
+        next: true,
+        other: false,
+        target: Row::GIVEN,
+        reference: Row::OPTIONAL,
+        fields: Field::LOCALITY_FORMAL,
+    },
+    // newloc
+    Row {
+        next: true,
+        other: false,
+        target: Row::BOUND,
+        reference: Row::OPTIONAL,
+        fields: 0,
+    },
+    // eval
+    Row {
+        next: true,
+        other: true, // is spawned
+        target: Row::GIVEN,
+        reference: Row::OPTIONAL,
+        fields: 0,
+    },
+    // split
+    Row {
+        next: true,
+        other: true, // goes right
+        target: Row::UNUSED,
+        reference: Row::UNUSED,
+        fields: 0,
+    },
+    // roll
+    Row {
+        next: false,
+        other: false,
+        target: Row::UNUSED,
+        reference: Row::NEEDED,
+        fields: 0,
+    },
+];
+
+fn row_of(kind: u8) -> Row
+    requires { ⌜ kind < 8 ⌝ }
+    ensures { λ r. ⌜ r ≡ rowOf kind ⌝ }
+{
+    let k = kind as usize;
+    ROWS[k]
+}
+
+// ---- a node taken apart
+
+fn wide(b: u8) -> u32
+    ensures { λ r. ⌜ r ≡ b ⌝ }
+{
+    b as u32
+}
+
+fn field_of(p: &[u8], j: usize) -> Field
+    requires { ⌜ (length (now p) ≡ 32) × (j < 4) ⌝ }
+    ensures { λ r. ⌜ r ≡ fieldOf (now (p .entry)) j ⌝ }
+{
+    let number = laws::word_at(p, 12 + 4 * j);
+    Field {
+        tag: p[8 + j],
+        number,
+    }
+}
+
+fn action_of(p: &[u8]) -> Action
+    requires { ⌜ length (now p) ≡ 32 ⌝ }
+    ensures { λ r. ⌜ r ≡ actionOf (now (p .entry)) ⌝ }
+{
+    let f0 = field_of(p, 0);
+    let f1 = field_of(p, 1);
+    let f2 = field_of(p, 2);
+    let f3 = field_of(p, 3);
+    let number = wide(p[4]);
+    let target = Field { tag: p[3], number };
+    Action {
+        kind: p[0],
+        next: Node(p[1]),
+        other: Node(p[2]),
+        target,
+        reference: Reference(p[5]),
+        count: p[6],
+        fields: [f0, f1, f2, f3],
+    }
+}
+
+// ---- a node held to its row
+
+fn node_in_place(used: bool, n: u8) -> bool
+    ensures { λ r. ⌜ r ≡ nodeInPlace used n ⌝ }
+{
+    if used {
+        return n < 64;
+    }
+    n == 0
+}
+
+fn target_in_place(used: u8, f: Field) -> bool
+    ensures { λ r. ⌜ r ≡ targetInPlace used f ⌝ }
+{
+    if used == Row::UNUSED {
+        return f.tag == 0 && f.number == 0;
+    }
+    if used == Row::GIVEN {
+        if f.tag < Field::LOCALITY {
+            return false;
+        }
+        return f.tag <= Field::VARIABLE && f.number < Field::NAMES;
+    }
+    f.tag == Field::VARIABLE && f.number < Field::NAMES
+}
+
+fn reference_in_place(used: u8, r: Reference) -> bool
+    ensures { λ a. ⌜ a ≡ referenceInPlace used (r .0) ⌝ }
+{
+    if used == Row::UNUSED {
+        return r.0 == NONE;
+    }
+    if used == Row::OPTIONAL {
+        return r.is_reference_or_none();
+    }
+    r.0 < 4
+}
+
+fn field_in_range(top: u8, f: Field) -> bool
+    ensures { λ r. ⌜ r ≡ fieldInRange top f ⌝ }
+{
+    if f.tag < Field::VALUE {
+        return false;
+    }
+    if top < f.tag {
+        return false;
+    }
+    if f.tag == Field::VALUE {
+        return true;
+    }
+    f.number < Field::NAMES
+}
+
+fn is_blank(f: Field) -> bool
+    ensures { λ r. ⌜ r ≡ isBlank f ⌝ }
+{
+    f.tag == 0 && f.number == 0
+}
+
+fn count_in_place(top: u8, count: u8) -> bool
+    ensures { λ r. ⌜ r ≡ countInPlace top count ⌝ }
+{
+    if top == 0 {
+        return count == 0;
+    }
+    1 <= count && count <= 4
+}
+
+fn field_in_place(top: u8, count: u8, j: u8, f: Field) -> bool
+    ensures { λ r. ⌜ r ≡ fieldInPlace top count j f ⌝ }
+{
+    if j < count {
+        return field_in_range(top, f);
+    }
+    is_blank(f)
+}
+
+fn fields_in_place(top: u8, count: u8, fields: [Field; Field::COUNT]) -> bool
+    ensures { λ r. ⌜ r ≡ fieldsInPlace top count fields ⌝ }
+{
+    let mut j: u8 = 0;
+    while j < 4 {
+        let f = fields[j as usize];
+        if !field_in_place(top, count, j, f) {
+            return false;
+        }
+        j += 1;
+    }
+    true
+}
+
+fn same_formal(f: Field, g: Field) -> bool
+    ensures { λ r. ⌜ r ≡ sameFormal f g ⌝ }
+{
+    if f.tag < Field::VALUE_FORMAL {
+        return false;
+    }
+    Field::VALUE_FORMAL <= g.tag && f.number == g.number
+}
+
+// No formal before this one names its variable.
+fn fresh_formal(fields: [Field; Field::COUNT], j: usize) -> bool
+    requires { ⌜ j < 4 ⌝ }
+    ensures { λ r. ⌜ r ≡ freshFormal fields j ⌝ }
+{
+    let g = fields[j];
+    let mut i: usize = 0;
+    while i < j {
+        let f = fields[i];
+        if same_formal(f, g) {
+            return false;
+        }
+        i += 1;
+    }
+    true
+}
+
+fn formals_distinct(fields: [Field; Field::COUNT]) -> bool
+    ensures { λ r. ⌜ r ≡ formalsDistinct fields ⌝ }
+{
+    let mut j: usize = 0;
+    while j < Field::COUNT {
+        if !fresh_formal(fields, j) {
+            return false;
+        }
+        j += 1;
+    }
+    true
+}
+
+fn places_in_row(r: Row, a: Action) -> bool
+    ensures { λ t. ⌜ t ≡ placesInRow r a ⌝ }
+{
+    if !node_in_place(r.next, a.next.0) {
+        return false;
+    }
+    if !node_in_place(r.other, a.other.0) {
+        return false;
+    }
+    let target = a.target;
+    if !target_in_place(r.target, target) {
+        return false;
+    }
+    let reference = a.reference;
+    reference_in_place(r.reference, reference)
+}
+
+fn fields_in_row(r: Row, a: Action) -> bool
+    ensures { λ t. ⌜ t ≡ fieldsInRow r a ⌝ }
+{
+    if !count_in_place(r.fields, a.count) {
+        return false;
+    }
+    let fields = a.fields;
+    if !fields_in_place(r.fields, a.count, fields) {
+        return false;
+    }
+    formals_distinct(fields)
+}
+
+fn action_in_range(a: Action) -> bool
+    ensures { λ r. ⌜ r ≡ actionInRange a ⌝ }
+{
+    if Action::KINDS <= a.kind {
+        return false;
+    }
+    let r = row_of(a.kind);
+    if !places_in_row(r, a) {
+        return false;
+    }
+    fields_in_row(r, a)
+}
+
+// ---- the image
+
+// Node i of an image.
+fn action_at(b: &[u8], i: usize) -> Action
+    requires { ⌜ (length (now b) ≡ 2064) × (i < 64) ⌝ }
+    ensures { λ r. ⌜ r ≡ actionOf (partAt 32 (now (b .entry)) i) ⌝ }
+{
+    let at = 16 + NODE_SIZE * i;
+    action_of(&b[at..at + NODE_SIZE])
+}
+
+// Node i of an image, which is read as a: the bytes that no node uses, and the range.
+fn action_formed(b: &[u8], i: usize, a: Action) -> bool
+    requires { ⌜ (length (now b) ≡ 2064) × (i < 64) ⌝ }
+    ensures { λ r. ⌜ r ≡ (restZero 32 (partAt 32 (now (b .entry)) i) && actionInRange a) ⌝ }
+{
+    let at = 16 + NODE_SIZE * i;
+    if !rest_is_zero(&b[at..at + NODE_SIZE], NODE_SIZE) {
+        return false;
+    }
+    action_in_range(a)
+}
+
+fn nil() -> Action
+    ensures { λ r. ⌜ r ≡ nilAction ⌝ }
+{
+    Action {
+        kind: Action::NIL,
+        next: Node(0),
+        other: Node(0),
+        target: Field { tag: 0, number: 0 },
+        reference: Reference::NONE,
+        count: 0,
+        fields: [Field { tag: 0, number: 0 }; Field::COUNT],
+    }
+}
+
+fn refused() -> ScriptRead
+    ensures { λ r. ⌜ r ≡ badScript ⌝ }
+{
+    let a = nil();
+    let script = Script {
+        nodes: [a; Node::COUNT],
+    };
+    ScriptRead {
+        form: Form::Bad,
+        script,
+    }
+}
+
+fn read_nodes(b: &[u8]) -> ScriptRead
+    requires { ⌜ length (now b) ≡ 2064 ⌝ }
+    ensures { λ r. ⌜ r ≡ pick (nodesFormed (now (b .entry))) (goodScript (scriptOf (now (b .entry)))) badScript ⌝ }
+{
+    let blank = nil();
+    let mut nodes = [blank; Node::COUNT];
+    let mut i: usize = 0;
+    while i < Node::COUNT {
+        let a = action_at(b, i);
+        if !action_formed(b, i, a) {
+            return refused();
+        }
+        nodes[i] = a;
+        i += 1;
+    }
+    let script = Script { nodes };
+    ScriptRead {
+        form: Form::Good,
+        script,
+    }
+}
+
+// Any byte string: the script that it is the writing of, or a refusal.
+pub fn read_script(b: &[u8]) -> ScriptRead
+    ensures { λ r. ⌜ r ≡ readScript (now (b .entry)) ⌝ }
+{
+    if b.len() != SIZE {
+        return refused();
+    }
+    if !head_formed(b, b'S') {
+        return refused();
+    }
+    if laws::word_at(b, 8) != 0 {
+        return refused();
+    }
+    read_nodes(b)
+}
