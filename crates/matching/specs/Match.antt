@@ -1,0 +1,54 @@
+-- When a template meets a tuple, and what that binds. 004, Table III; document 01, "Forward rules": "Same field count is needed to match.
+-- Actual fields match the same kind and number; a formal for a value only a value, for a locality only a locality."
+-- Assumes nothing.
+use Prim.Native.Nat.{ℕ, zero, suc}
+use mathlib.Core.List.{List}
+use mathlib.Core.Bool.{Bool, true, _&&_}
+use lib.Dec.{eqb, ltb}
+use lib.ListN.{getD, set}
+use Rattle.laws.specs.Choice.{pick}
+use Rattle.laws.specs.Checks.{all}
+use Rattle.names.specs.Names.{variableCount}
+use Rattle.images.specs.Script.{fieldAt}
+use Rattle.images.specs.Net.{datum0}
+use Rattle.images.specs.declared.Field.{Field}
+use Rattle.images.specs.declared.Action.{Action}
+use Rattle.images.specs.declared.Datum.{Datum}
+use Rattle.matching.specs.Evaluate.{actual, isFormal}
+use Rattle.matching.specs.declared.Match.{Match}
+use Rattle.matching.specs.declared.Match.the-variants as Match
+use Rattle.matching.specs.declared.Matching.{Matching}
+
+-- one field of a template against one of a tuple
+unfoldable pub fieldMeets : List Datum → Field → Datum → Bool
+fieldMeets vars f d =
+    pick (eqb (f .tag) 4) (eqb (d .tag) 1)
+    (pick (eqb (f .tag) 5) (eqb (d .tag) 2) (eqb (actual vars f .tag) (d .tag) && eqb (actual vars f .number) (d .number)))
+
+unfoldable pub placeMeets : List Datum → ℕ → ℕ → Field → Datum → Bool
+placeMeets vars count j f d = pick (ltb j count) (fieldMeets vars f d) true
+
+-- the template of a node against a tuple with so many fields
+unfoldable pub meets : List Datum → Action → ℕ → List Datum → Bool
+meets vars a count fields = eqb (a .count) count && all 4 (λ j. placeMeets vars (a .count) j (fieldAt a j) (getD fields j datum0))
+
+-- "an in or read binds its formals": each formal's variable takes the tuple's field
+abbrev pub withVariable : List Datum → ℕ → Datum → List Datum
+withVariable vars v d = pick (ltb v variableCount) (set vars v d) vars
+
+unfoldable pub bindOne : List Datum → Field → Datum → List Datum
+bindOne vars f d = pick (isFormal f) (withVariable vars (f .number) d) vars
+
+-- the first k fields bound
+unfoldable pub bindUpTo : ℕ → List Datum → Action → List Datum → List Datum
+bindUpTo zero vars a fields = vars
+bindUpTo (suc k) vars a fields = bindOne (bindUpTo k vars a fields) (fieldAt a k) (getD fields k datum0)
+
+unfoldable pub bound : List Datum → Action → List Datum → List Datum
+bound vars a fields = bindUpTo 4 vars a fields
+
+-- the answer, and the process's variables: as bound where it matches, else as they were
+unfoldable pub matchOf : List Datum → Action → ℕ → List Datum → Matching
+matchOf vars a count fields =
+    pick (meets vars a count fields) (record { answer = Match.Matches; contents = bound vars a fields })
+    (record { answer = Match.Differs; contents = vars })
