@@ -1,0 +1,155 @@
+-- Nets that a careless test of acceptance lets pass: each is refused, for the one clause that says so.
+-- In order: a small script and its rules; an event that made itself; an in before a read of its tuple, and two of them crossed; an eval that
+-- made one key twice; an out at an absent locality.
+-- Assumes nothing.
+use Prim.Native.Nat.{ℕ, _-_, _<_}
+use mathlib.Core.Path.{_≡_, refl, sym, _∙_}
+use mathlib.Core.List.{List, [], _∷_, _++_}
+use mathlib.Core.Bool.{Bool, true, false, _&&_, _||_, true≢false}
+use lib.Dec.{eqb, ltb}
+use lib.ListN.{length, getD, replicate}
+use borrow.Author.Tests.{eqb-true, ltb-true}
+use Rattle.laws.specs.Choice.{pick, clash, and-left, and-right}
+use Rattle.laws.specs.Checks.{all, all-at}
+use Rattle.order.specs.Graphs.{Reach, here, step}
+use Rattle.names.specs.Names.{nodeCount, none, key, locality, node, reference}
+use Rattle.images.specs.Script.{field0, nodeInPlace, targetInPlace, referenceInPlace, fieldInRange, countInPlace, fieldInPlace, fieldsInPlace, sameFormal, freshFormal, formalsDistinct, placesInRow, fieldsInRow, actionInRange, scriptInRange, actionAt, fieldAt}
+use Rattle.images.specs.Net.{datum0}
+use Rattle.images.specs.Read.{nilAction}
+use Rattle.images.specs.Shape.{ShapedScript}
+use Rattle.images.specs.declared.Field.{Field}
+use Rattle.images.specs.declared.Action.{Action}
+use Rattle.images.specs.declared.Script.{Script}
+use Rattle.images.specs.declared.Datum.{Datum}
+use Rattle.matching.specs.Evaluate.{targetOf, actual}
+use Rattle.nets.specs.Rules.{Rules}
+use Rattle.nets.specs.Net.{Kind, free, live, past, tuple, consumed, Slot, Net, freeSlot, fresh, madeKey, tookTuple, readTuple, depends}
+use Rattle.nets.specs.Accepted.{Accepted}
+use Rattle.rules.specs.Body.{Body}
+use Rattle.rules.specs.Products.{target}
+use Rattle.rules.specs.Instance.{actOf, rulesOf}
+
+-- ---- the script
+
+abbrev field : ℕ → ℕ → Field
+field t x = record { tag = t; number = x }
+
+abbrev act : ℕ → ℕ → ℕ → Field → List Field → Action
+act k n o t fs =
+    record {
+      kind = k;
+      next = node n;
+      other = node o;
+      target = t;
+      reference = reference none;
+      count = length fs;
+      fields = fs ++ replicate (4 - length fs) field0;
+    }
+
+-- 0 nil; 1 newloc variable 0, next 1; 2 in ⟨7⟩@0, next 3; 3 read ⟨7⟩@0; 4 eval 0 @0; 5 out ⟨1⟩@5; 6 in ⟨7⟩@0, next 7; 7 read ⟨8⟩@0;
+-- 8 in ⟨8⟩@0, next 3; others nil
+abbrev script : Script
+script =
+    record {
+      nodes =
+          nilAction ∷ act 4 1 0 (field 3 0) [] ∷ act 2 3 0 (field 2 0) (field 1 7 ∷ []) ∷ act 3 0 0 (field 2 0) (field 1 7 ∷ []) ∷
+          act 5 0 0 (field 2 0) [] ∷ act 1 0 0 (field 2 5) (field 1 1 ∷ []) ∷ act 2 7 0 (field 2 0) (field 1 7 ∷ []) ∷
+          act 3 0 0 (field 2 0) (field 1 8 ∷ []) ∷ act 2 3 0 (field 2 0) (field 1 8 ∷ []) ∷ replicate 55 nilAction;
+    }
+
+range : scriptInRange script ≡ true
+unfolding scriptInRange all actionInRange placesInRow fieldsInRow nodeInPlace targetInPlace referenceInPlace fieldInRange countInPlace fieldInPlace fieldsInPlace sameFormal freshFormal formalsDistinct
+range = refl
+
+abbrev whole : ℕ → Bool
+whole i = eqb (length (actionAt script i .fields)) 4 && all 4 (λ j. ltb (fieldAt (actionAt script i) j .number) 4294967296)
+
+all-whole : all nodeCount whole ≡ true
+unfolding all
+all-whole = refl
+
+shaped : ShapedScript script
+shaped =
+    record {
+      nodes = refl;
+      at =
+          λ i l.
+          let h = all-at nodeCount whole all-whole i l in
+          record {
+            fields = eqb-true (length (actionAt script i .fields)) 4 (and-left (eqb (length (actionAt script i .fields)) 4) _ h);
+            numbers =
+                λ j q.
+                ltb-true (fieldAt (actionAt script i) j .number) 4294967296
+                (all-at 4 (λ j. ltb (fieldAt (actionAt script i) j .number) 4294967296) (and-right (eqb (length (actionAt script i .fields)) 4) _ h) j q);
+          };
+    }
+
+abbrev S : Rules
+S = rulesOf script shaped range
+
+-- ---- records
+
+abbrev at : ℕ → ℕ → List Datum → Body
+at p l vars = record { locality = locality l; node = node p; count = 0; contents = vars; refs = replicate 4 (key none) }
+
+abbrev nothing : List Datum
+nothing = replicate 8 datum0
+
+abbrev event : Body → ℕ → ℕ → ℕ → ℕ → Slot S
+event b x y t l = record { kind = past; body = b; first = x; second = y; used = t; place = l }
+
+abbrev tupleAt : Kind → ℕ → ℕ → Slot S
+tupleAt c x l =
+    fresh c
+    (record { locality = locality l; node = node 0; count = 1; contents = record { tag = 1; number = x } ∷ replicate 7 datum0; refs = replicate 4 (key none) })
+
+abbrev net : (ℕ → Bool) → List (Slot S) → Net S
+net present slots = record { present = present; slot = λ i. getD slots i freeSlot }
+
+abbrev ended : ℕ → Slot S
+ended l = fresh live (at 0 l nothing)
+
+-- ---- the nets
+
+-- "present {0, 8}; key 0 an event at a newloc node (variable 0, next itself) at locality 8, variable 0 = locality 8, byte 3 = 0,
+-- byte 6 = 8. It made itself."
+abbrev selfMade : Net S
+selfMade = net (λ l. eqb l 0 || eqb l 8) (event (at 1 8 (record { tag = 2; number = 8 } ∷ replicate 7 datum0)) 0 none none 8 ∷ [])
+
+pub self-made-refused : Accepted selfMade → ⊥
+unfolding depends madeKey
+self-made-refused ok = ok .no-cycle 0 0 refl here
+
+-- "an in of tuple 1 whose continuation is a past read of tuple 1"
+abbrev readAfter : Net S
+readAfter = net (λ l. eqb l 0) (event (at 2 0 nothing) 2 none 1 none ∷ tupleAt consumed 7 0 ∷ event (at 3 0 nothing) 3 none 1 none ∷ ended 0 ∷ [])
+
+pub read-after-refused : Accepted readAfter → ⊥
+unfolding depends madeKey tookTuple readTuple actOf
+read-after-refused ok = ok .no-cycle 0 2 refl (step refl here)
+
+-- "crossed: A in t1 then read t2, B in t2 then read t1"
+abbrev crossed : Net S
+crossed =
+    net (λ l. eqb l 0)
+    (event (at 6 0 nothing) 1 none 4 none ∷ event (at 7 0 nothing) 2 none 5 none ∷ ended 0 ∷ freeSlot ∷ tupleAt consumed 7 0 ∷
+    tupleAt consumed 8 0 ∷ event (at 8 0 nothing) 7 none 5 none ∷ event (at 3 0 nothing) 8 none 4 none ∷ ended 0 ∷ [])
+
+pub crossed-refused : Accepted crossed → ⊥
+unfolding depends madeKey tookTuple readTuple actOf
+crossed-refused ok = ok .no-cycle 0 1 refl (step {f = 6} refl (step {f = 7} refl (step refl here)))
+
+-- "An eval with next = other, target its own locality, no reference, and byte 3 = byte 4"
+abbrev madeTwice : Net S
+madeTwice = net (λ l. eqb l 0) (event (at 4 0 nothing) 1 1 none none ∷ ended 0 ∷ [])
+
+pub made-twice-refused : Accepted madeTwice → ⊥
+made-twice-refused ok = ok .agrees 0 refl .rule .places .apart refl
+
+-- "A past out at an absent literal locality 5 with its tuple there"
+abbrev nowhere : Net S
+nowhere = net (λ l. eqb l 0) (event (at 5 0 nothing) 1 2 none none ∷ ended 0 ∷ tupleAt tuple 1 5 ∷ [])
+
+pub nowhere-refused : Accepted nowhere → ⊥
+unfolding actOf target targetOf actual
+nowhere-refused ok = true≢false (sym (ok .agrees 0 refl .rule .there refl))

@@ -1,0 +1,17 @@
+pub mod Rules
+pub mod Net
+pub mod Rule
+pub mod Forward
+pub mod Undo
+pub mod Accepted
+pub mod Records
+pub mod Events
+pub mod Origins
+pub mod Undone
+pub mod Backward
+pub mod Onward
+pub mod Loops
+pub mod Rollback
+pub mod Reached
+pub mod Demands
+pub mod Example

@@ -1,0 +1,33 @@
+-- What a record names and holds, and what one that nobody made may.
+-- Assumes nothing.
+use Prim.Native.Nat.{ℕ}
+use mathlib.Core.List.{List}
+use mathlib.Core.Bool.{Bool, true, _&&_}
+use lib.Dec.{eqb, ltb}
+use lib.ListN.{getD}
+use Rattle.laws.specs.Choice.{pick}
+use Rattle.laws.specs.Checks.{all}
+use Rattle.order.specs.KeySets.{any}
+use Rattle.names.specs.Names.{keyCount, firstMade, none, key}
+use Rattle.images.specs.Net.{datum0, refsAre}
+use Rattle.images.specs.declared.Datum.{Datum}
+use Rattle.rules.specs.Body.{Body}
+
+-- a variable or a field that holds this locality
+abbrev pub isPlace : ℕ → Datum → Bool
+isPlace m d = eqb (d .tag) 2 && eqb (d .number) m
+
+unfoldable pub names : Body → ℕ → Bool
+names b m = any 8 (λ j. isPlace m (getD (b .contents) j datum0))
+
+-- a reference that holds this key
+unfoldable pub refers : Body → ℕ → Bool
+refers b r = ltb r keyCount && any 4 (λ j. eqb (getD (b .refs) j (key 0) .0) r)
+
+-- "A record nobody made lives at a present locality 0..7, names only localities 0..7 (present or not) and holds no reference."
+abbrev pub isHome : Datum → Bool
+isHome d = pick (eqb (d .tag) 2) (ltb (d .number) firstMade) true
+
+unfoldable pub rooted : Body → Bool
+rooted b =
+    ltb (b .locality .0) firstMade && (all 8 (λ j. isHome (getD (b .contents) j datum0)) && refsAre none (b .refs))
