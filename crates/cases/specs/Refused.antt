@@ -16,6 +16,7 @@ use Rattle.names.specs.Names.{nodeCount, none, key, locality, node, reference}
 use Rattle.images.specs.Script.{field0, nodeInPlace, targetInPlace, referenceInPlace, fieldInRange, countInPlace, fieldInPlace, fieldsInPlace, sameFormal, freshFormal, formalsDistinct, placesInRow, fieldsInRow, actionInRange, scriptInRange, actionAt, fieldAt}
 use Rattle.images.specs.Net.{datum0}
 use Rattle.images.specs.Read.{nilAction}
+use Rattle.images.specs.Examples.{field, action}
 use Rattle.images.specs.Shape.{ShapedScript}
 use Rattle.images.specs.declared.Field.{Field}
 use Rattle.images.specs.declared.Action.{Action}
@@ -28,23 +29,13 @@ use Rattle.nets.specs.Accepted.{Accepted}
 use Rattle.rules.specs.Body.{Body}
 use Rattle.rules.specs.Products.{target}
 use Rattle.rules.specs.Instance.{actOf, rulesOf}
+use Rattle.cases.specs.Shaped.{shaped-script}
 
 -- ---- the script
 
-abbrev field : ℕ → ℕ → Field
-field t x = record { tag = t; number = x }
-
+-- a node without a reference: kind, next, other, target, fields
 abbrev act : ℕ → ℕ → ℕ → Field → List Field → Action
-act k n o t fs =
-    record {
-      kind = k;
-      next = node n;
-      other = node o;
-      target = t;
-      reference = reference none;
-      count = length fs;
-      fields = fs ++ replicate (4 - length fs) field0;
-    }
+act k n o t fs = action k n o t none fs
 
 -- 0 nil; 1 newloc variable 0, next 1; 2 in ⟨7⟩@0, next 3; 3 read ⟨7⟩@0; 4 eval 0 @0; 5 out ⟨1⟩@5; 6 in ⟨7⟩@0, next 7; 7 read ⟨8⟩@0;
 -- 8 in ⟨8⟩@0, next 3; others nil
@@ -61,28 +52,9 @@ range : scriptInRange script ≡ true
 unfolding scriptInRange all actionInRange placesInRow fieldsInRow nodeInPlace targetInPlace referenceInPlace fieldInRange countInPlace fieldInPlace fieldsInPlace sameFormal freshFormal formalsDistinct
 range = refl
 
-abbrev whole : ℕ → Bool
-whole i = eqb (length (actionAt script i .fields)) 4 && all 4 (λ j. ltb (fieldAt (actionAt script i) j .number) 4294967296)
-
-all-whole : all nodeCount whole ≡ true
-unfolding all
-all-whole = refl
-
 shaped : ShapedScript script
-shaped =
-    record {
-      nodes = refl;
-      at =
-          λ i l.
-          let h = all-at nodeCount whole all-whole i l in
-          record {
-            fields = eqb-true (length (actionAt script i .fields)) 4 (and-left (eqb (length (actionAt script i .fields)) 4) _ h);
-            numbers =
-                λ j q.
-                ltb-true (fieldAt (actionAt script i) j .number) 4294967296
-                (all-at 4 (λ j. ltb (fieldAt (actionAt script i) j .number) 4294967296) (and-right (eqb (length (actionAt script i .fields)) 4) _ h) j q);
-          };
-    }
+unfolding all
+shaped = shaped-script script refl refl
 
 abbrev S : Rules
 S = rulesOf script shaped range

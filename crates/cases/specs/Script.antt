@@ -14,7 +14,7 @@ use Rattle.names.specs.Names.{keyCount, nodeCount, none, key, locality, node, r
 use Rattle.names.specs.declared.Key.{Key}
 use Rattle.images.specs.Script.{nodeInPlace, targetInPlace, referenceInPlace, fieldInRange, countInPlace, fieldInPlace, fieldsInPlace, sameFormal, freshFormal, formalsDistinct, placesInRow, fieldsInRow, actionInRange, scriptInRange, actionAt, fieldAt}
 use Rattle.images.specs.Net.{datum0}
-use Rattle.images.specs.Shape.{ShapedScript, ShapedAction}
+use Rattle.images.specs.Shape.{ShapedScript}
 use Rattle.images.specs.Examples.{scriptT}
 use Rattle.images.specs.declared.Datum.{Datum}
 use Rattle.nets.specs.Rules.{Rules}
@@ -22,35 +22,15 @@ use Rattle.nets.specs.Net.{Kind, free, live, past, tuple, consumed, Slot, Net, 
 use Rattle.rules.specs.Body.{Body}
 use Rattle.rules.specs.Products.{action}
 use Rattle.rules.specs.Instance.{rulesOf}
+use Rattle.cases.specs.Shaped.{shaped-script}
 
 pub range-T : scriptInRange scriptT ≡ true
 unfolding scriptInRange all actionInRange placesInRow fieldsInRow nodeInPlace targetInPlace referenceInPlace fieldInRange countInPlace fieldInPlace fieldsInPlace sameFormal freshFormal formalsDistinct
 range-T = refl
 
--- each node of T has four fields, with numbers of 32 bits
-abbrev whole : ℕ → Bool
-whole i =
-    eqb (length (actionAt scriptT i .fields)) 4 && all 4 (λ j. ltb (fieldAt (actionAt scriptT i) j .number) 4294967296)
-
-all-whole : all nodeCount whole ≡ true
-unfolding all
-all-whole = refl
-
 pub shaped-T : ShapedScript scriptT
-shaped-T =
-    record {
-      nodes = refl;
-      at =
-          λ i l.
-          let h = all-at nodeCount whole all-whole i l in
-          record {
-            fields = eqb-true (length (actionAt scriptT i .fields)) 4 (and-left (eqb (length (actionAt scriptT i .fields)) 4) _ h);
-            numbers =
-                λ j q.
-                ltb-true (fieldAt (actionAt scriptT i) j .number) 4294967296
-                (all-at 4 (λ j. ltb (fieldAt (actionAt scriptT i) j .number) 4294967296) (and-right (eqb (length (actionAt scriptT i .fields)) 4) _ h) j q);
-          };
-    }
+unfolding all
+shaped-T = shaped-script scriptT refl refl
 
 abbrev pub T : Rules
 T = rulesOf scriptT shaped-T range-T

@@ -57,11 +57,11 @@ nodesT =
 pub bytesT : List ℕ
 bytesT = filled 16 (82 ∷ 84 ∷ 83 ∷ 0 ∷ 1 ∷ []) ++ flat nodesT
 
-abbrev field : ℕ → ℕ → Field
+abbrev pub field : ℕ → ℕ → Field
 field t x = record { tag = t; number = x }
 
 -- kind, next, other, target, reference, fields
-abbrev action : ℕ → ℕ → ℕ → Field → ℕ → List Field → Action
+abbrev pub action : ℕ → ℕ → ℕ → Field → ℕ → List Field → Action
 action k n o t r fs =
     record {
       kind = k;

@@ -8,12 +8,11 @@ use mathlib.Core.Bool.{Bool, true, false}
 use lib.ListN.{length, replicate}
 use Rattle.laws.specs.Lists.{tab}
 use Rattle.laws.specs.Checks.{all}
-use Rattle.names.specs.Names.{none, key, locality, node, reference}
+use Rattle.names.specs.Names.{none, key, locality, node}
 use Rattle.names.specs.declared.Key.{Key}
 use Rattle.images.specs.Script.{field0}
+use Rattle.images.specs.Examples.{field, action}
 use Rattle.images.specs.Net.{datum0}
-use Rattle.images.specs.declared.Field.{Field}
-use Rattle.images.specs.declared.Action.{Action}
 use Rattle.images.specs.declared.Script.{Script}
 use Rattle.images.specs.declared.Datum.{Datum}
 use Rattle.matching.specs.Evaluate
@@ -22,31 +21,15 @@ use Rattle.matching.specs.Match.{meets, placeMeets, fieldMeets, bound, bindUpTo
 use Rattle.rules.specs.Body.{Body}
 use Rattle.rules.specs.Products.{target, isReady, fits, variablesAfter, referencesAfter, continuation, tupleMade, processMade, secondMade}
 
-abbrev field : ℕ → ℕ → Field
-field t x = record { tag = t; number = x }
-
--- kind, next, other, target, reference, fields
-abbrev act : ℕ → ℕ → ℕ → Field → ℕ → List Field → Action
-act k n o t r fs =
-    record {
-      kind = k;
-      next = node n;
-      other = node o;
-      target = t;
-      reference = reference r;
-      count = length fs;
-      fields = fs ++ replicate (4 - length fs) field0;
-    }
-
 -- 0 out ⟨6, locality 1, variable 0⟩@2 with reference 1; 1 in ⟨!x3, !u4⟩@variable 1 with reference 2; 2 read ⟨variable 0, locality 3⟩@2;
 -- 3 newloc variable 5 with reference 0; 4 eval 7 @variable 1 with reference 3; 5 split 8, 9; each goes on at 10
 abbrev script : Script
 script =
     record {
       nodes =
-          act 1 10 0 (field 2 2) 1 (field 1 6 ∷ field 2 1 ∷ field 3 0 ∷ []) ∷ act 2 10 0 (field 3 1) 2 (field 4 3 ∷ field 5 4 ∷ []) ∷
-          act 3 10 0 (field 2 2) none (field 3 0 ∷ field 2 3 ∷ []) ∷ act 4 10 0 (field 3 5) 0 [] ∷ act 5 10 7 (field 3 1) 3 [] ∷
-          act 6 8 9 field0 none [] ∷ [];
+          action 1 10 0 (field 2 2) 1 (field 1 6 ∷ field 2 1 ∷ field 3 0 ∷ []) ∷ action 2 10 0 (field 3 1) 2 (field 4 3 ∷ field 5 4 ∷ []) ∷
+          action 3 10 0 (field 2 2) none (field 3 0 ∷ field 2 3 ∷ []) ∷ action 4 10 0 (field 3 5) 0 [] ∷ action 5 10 7 (field 3 1) 3 [] ∷
+          action 6 8 9 field0 none [] ∷ [];
     }
 
 abbrev value : ℕ → Datum
