@@ -5,3 +5,4 @@ pub mod Dependents
 pub mod Table
 pub mod Accepted
 pub mod Refused
+pub mod Images

@@ -6,4 +6,6 @@ pub mod Roots
 pub mod Laws
 pub mod Forms
 pub mod Instance
+pub mod View
+pub mod Theorems
 pub mod Examples

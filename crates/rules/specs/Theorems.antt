@@ -1,0 +1,68 @@
+-- The theory of nets, of every script in range: what it proves of any rules, it proves of these. Each theorem under the demand or the
+-- sentence of document 01 that it answers; `nets`, `Demands`, has them all, over any rules.
+-- Assumes nothing.
+use Prim.Native.Nat.{ℕ, _≤_, _<_}
+use mathlib.Core.Path.{_≡_}
+use mathlib.Core.Logic.{_↔_}
+use mathlib.Core.Bool.{true}
+use Rattle.order.specs.KeySets.{_∈_, count}
+use Rattle.order.specs.Graphs.{Last}
+use Rattle.images.specs.Script.{scriptInRange}
+use Rattle.images.specs.Shape.{ShapedScript}
+use Rattle.images.specs.declared.Script.{Script}
+use Rattle.nets.specs.Net.{Net, events, held, makesLocality, isMade, depends}
+use Rattle.nets.specs.Forward.{Request, forward, Can}
+use Rattle.nets.specs.Undo.{undo, rollback, undone, Undoable}
+use Rattle.nets.specs.Accepted.{Accepted}
+use Rattle.nets.specs.Origins.{Alone, Reference}
+use Rattle.nets.specs.Loops.{again}
+use Rattle.nets.specs.Rollback.{AnyOrder}
+use Rattle.nets.specs.Reached.{Reached}
+use Rattle.nets.specs.Demands as D
+use Rattle.rules.specs.Instance.{rulesOf}
+use Rattle.rules.specs.Roots.{refers}
+
+module _ (s : Script) (w : ShapedScript s) (range : scriptInRange s ≡ true) (n : Net (rulesOf s w range)) (ok : Accepted n) where
+  -- demand 2: "A step and its backward step restore every byte; a backward step and the same request forward do too."
+  pub forward-then-back : (r : Request) → Can n r → undo (forward n r) (r .key) ≡ n
+  forward-then-back = D.forward-then-back n ok
+
+  pub back-then-forward : (x : ℕ) → Undoable n x → forward (undo n x) (again n x) ≡ n
+  back-then-forward = D.back-then-forward n ok
+
+  -- steps and rollbacks keep acceptance
+  pub forward-accepted : (r : Request) → Can n r → Accepted (forward n r)
+  forward-accepted = D.forward-accepted n ok
+
+  pub undo-accepted : (x : ℕ) → Undoable n x → Accepted (undo n x)
+  undo-accepted = D.undo-accepted n ok
+
+  pub rollback-accepted : (e : ℕ) → e ∈ events n → Accepted (rollback n e)
+  rollback-accepted = D.rollback-accepted n ok
+
+  -- undoable exactly when nothing depends directly
+  pub undoable-iff : (x : ℕ) → Undoable n x ↔ Last (depends n) (events n) x
+  undoable-iff = D.undoable-iff n ok
+
+  -- "That a made locality is empty when its newloc may be undone is a consequence to prove"; and its own continuation alone names it
+  pub made-locality-alone : (x l : ℕ) → makesLocality n x l ≡ true → Undoable n x → Alone n x l
+  made-locality-alone = D.made-locality-alone n ok
+
+  -- a reference that is held names an event that is no split, and a dependent of it made the holder
+  pub reference-held : (k r : ℕ) → k ∈ held n → refers (n .slot k .body) r ≡ true → Reference n k r
+  reference-held = D.reference-held n ok
+
+  -- demand 3: never sticks, one count, one net, which is the rollback's, and none left out
+  pub any-order : (e : ℕ) → e ∈ events n → AnyOrder n e
+  any-order = D.any-order n ok
+
+  -- "*Undone* is their number, at most 63", and at most the number of made keys
+  pub undone-below : (e : ℕ) → e ∈ events n → undone n e < 64
+  undone-below = D.undone-below n ok
+
+  pub undone-made : (e : ℕ) → e ∈ events n → undone n e ≤ count 64 (isMade n)
+  undone-made = D.undone-made n ok
+
+-- "Proved: the accepted nets are exactly those that forward steps reach from accepted nets with no past process (004, Definition 1)."
+pub accepted-iff-reached : (s : Script) (w : ShapedScript s) (range : scriptInRange s ≡ true) (n : Net (rulesOf s w range)) → Accepted n ↔ Reached n
+accepted-iff-reached s w range n = D.accepted-iff-reached n
