@@ -1,6 +1,7 @@
 -- Which nets are accepted. Document 01, "Which nets are accepted": each clause stands under its sentence.
 --
--- In order: the form of a slot (`Formed`); an event and what it made (`Agrees`); a record that nobody made (`Root`); `Accepted`.
+-- In order: the number of slots (`Bounded`) and the form of each (`Formed`); an event and what it made (`Agrees`); a record that nobody
+-- made (`Root`); `Accepted`.
 -- Assumes nothing.
 use mathlib.Core.Path.{_≡_}
 use mathlib.Core.Bool.{true, false}
@@ -12,6 +13,10 @@ use Rattle.nets.specs.Net.{Kind, free, live, past, tuple, consumed, Slot
 use Rattle.nets.specs.Rule.{met, product, Rule}
 
 module _ {R : Rules} where
+  -- "64 slots": from the number of keys on nothing is held
+  abbrev pub Bounded : Net R → Type 0
+  Bounded n = (k : ℕ) → R .keys ≤ k → n .slot k ≡ freeSlot
+
   -- "A free slot is all 0. Otherwise bytes 3..6 are 255 where nothing is held": tuples and live processes hold nothing there.
   abbrev pub Formed : Kind → Slot R → Type 0
   Formed free s = s ≡ freeSlot
@@ -25,14 +30,14 @@ module _ {R : Rules} where
     pub rule : Rule n s
     pub made : (k : ℕ) → madeKey k s ≡ true → forget (n .slot k) ≡ product e s (met n s .body) k
 
-  -- "lives at a present locality 0..7, names only localities 0..7 (present or not) and holds no reference"
+  -- what a record that nobody made must be
   pub record Root (n : Net R) (s : Slot R) : Type 0 where
     pub rooted : R .rooted (s .body) ≡ true
     pub lives : R .at (s .body) ∈ n .present
 
   pub record Accepted (n : Net R) : Type 0 where
-    -- "Length, mark, version and form": there are as many keys as there are, and each slot has its form
-    pub bound : (k : ℕ) → R .keys ≤ k → n .slot k ≡ freeSlot
+    -- "Length, mark, version and form"
+    pub bound : Bounded n
     pub formed : (k : ℕ) → Formed (n .slot k .kind) (n .slot k)
     -- "each past record and what it made agree with the rule above, targets present; a past process is at kinds 1..6"
     pub agrees : (e : ℕ) → e ∈ events n → Agrees n e (n .slot e)
@@ -47,7 +52,7 @@ module _ {R : Rules} where
     pub live-untaken : (f k : ℕ) → n .slot k .kind ≡ tuple → takes n f k ≡ false
     -- "Localities 8..31 are present exactly when made."
     pub present-made : (l : ℕ) → l ∈ R .makeable → n .present l ≡ isMadeLocality n l
-    -- "A record nobody made lives at a present locality 0..7, .."
+    -- "A record nobody made lives at a present locality 0..7, names only localities 0..7 (present or not) and holds no reference."
     pub roots : (k : ℕ) → k ∈ held n → k ∉ isMade n → Root n (n .slot k)
-    -- "Dependence has no cycle."
+    -- "Dependence has no cycle": nothing reaches itself in one or more direct steps
     pub no-cycle : Acyclic (depends n)

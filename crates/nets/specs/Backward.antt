@@ -1,8 +1,8 @@
 -- The backward step of an accepted net: what it changes, and that it keeps acceptance.
 --
 -- In order: what becomes of a slot (`Way`, `way`) and of the localities (`present-is`); the events and the dependence that are left
--- (`undo-events`, `undo-depends`); what an event's record says, it says still (`said-before`, `said-still`); agreement is kept (`agrees-still`);
--- acceptance is kept (`undo-accepted`).
+-- (`undo-events`, `undo-depends`); what an event's record says, it says still (`said-before`, `said-still`); agreement is kept
+-- (`agrees-still`); acceptance is kept (`undo-accepted`).
 -- Assumes nothing.
 use mathlib.Core.Path.{_≡_, refl, sym, _∙_, ap, fun-ext}
 use mathlib.Core.Bool.{Bool, true, false, not, _&&_, true≢false}
@@ -14,10 +14,10 @@ use Rattle.order.specs.Tests.{or-left, or-right, or-cases, fails, agree}
 use Rattle.order.specs.KeySets.{_∈_, _∉_, _∖_, only, only-self, minus-in, minus-out, any-of, any-some, any-only}
 use Rattle.order.specs.Graphs.{acyclic-fewer, last-reach}
 use Rattle.nets.specs.Rules.{Rules, aims}
-use Rattle.nets.specs.Net.{made-tuple, Kind, tuple, consumed, isFree, isPast, isConsumed, Slot, Net, freeSlot, forget, events, held, madeKey, tookTuple, madeLocality, makes, takes, makesLocality, isMade, isMadeLocality, depends}
+use Rattle.nets.specs.Net.{isHeld, made-tuple, tuple, consumed, isPast, isConsumed, Slot, Net, freeSlot, forget, events, held, madeKey, tookTuple, madeLocality, makes, takes, makesLocality, isMade, isMadeLocality, depends}
 use Rattle.nets.specs.Undo.{madeBy, takenBy, localityBy, againBy, undoSet, undo, Undoable}
 use Rattle.nets.specs.Accepted.{Formed, Agrees, Root, Accepted}
-use Rattle.nets.specs.Records.{live-not-past, live-not-consumed, forget-not-past, forget-not-consumed, forget-formed, OfEvents, made-past, took-past, locality-past, agrees-over}
+use Rattle.nets.specs.Records.{kind-eq, live-not-past, live-not-consumed, forget-not-past, forget-not-consumed, forget-formed, OfEvents, made-past, took-past, locality-past, agrees-over}
 use Rattle.nets.specs.Events.{depends-cause, cause-depends, cause-past, event-below, event-held, among, take-consumed, undoable-last}
 use Rattle.nets.specs.Origins.{target-concerns, locality-needs, locality-event}
 use Rattle.nets.specs.Undone.{Turn, freed, again, same, turn, kept, kept-event, left-alone, forget-kept, body-kept, made-freed}
@@ -105,8 +105,8 @@ module _ {R : Rules} (n : Net R) (ok : Accepted n) (x : ℕ) (u : Undoable n x) 
     where
       each : Way e → ⊥
       each (made-free h q) = clash (makes n x e) h (made-no-event e (ap (events n) z ∙ u .is-past))
-      each (itself y q) = clash (events n′ e) p (ap (λ (s : Slot R). isPast (s .kind)) q ∙ forget-not-past (n .slot e))
-      each (given-back h q) = clash (events n′ e) p (ap (λ (s : Slot R). isPast (s .kind)) q ∙ forget-not-past (n .slot e))
+      each (itself y q) = clash (events n′ e) p (ap isPast (kind-eq q) ∙ forget-not-past (n .slot e))
+      each (given-back h q) = clash (events n′ e) p (ap isPast (kind-eq q) ∙ forget-not-past (n .slot e))
       each (untouched h y t q) = y z
 
   pub undo-events : events n′ ≡ events n ∖ only x
@@ -117,7 +117,7 @@ module _ {R : Rules} (n : Net R) (ok : Accepted n) (x : ℕ) (u : Undoable n x) 
       (λ p. and-both (events n e) _ (kept-event n (only x) e p) (rw (ne-eqb e x (not-x e p))))
       (λ p.
       let old = minus-in (events n) (only x) e p in
-      ap (λ (s : Slot R). isPast (s .kind)) (still e old (eqb-false e x (minus-out (events n) (only x) e p))) ∙ old))
+      ap isPast (kind-eq (still e old (eqb-false e x (minus-out (events n) (only x) e p)))) ∙ old))
 
   pub undo-depends : (e f : ℕ) → e ∈ events n′ → f ∈ events n′ → depends n′ e f ≡ depends n e f
   unfolding depends
@@ -151,7 +151,8 @@ module _ {R : Rules} (n : Net R) (ok : Accepted n) (x : ℕ) (u : Undoable n x) 
       (λ m. clash (events n e) p (undoable-last n ok x u .none e (cause-depends n x e p (made-tuple m))))
 
   -- nor its target
-  target-elsewhere : (e : ℕ) → e ∈ events n → (e ≡ x → ⊥) → aims (R .act (n .slot e .body)) ≡ true → makesLocality n x (R .target (n .slot e .body)) ≡ false
+  target-elsewhere : (e : ℕ) → e ∈ events n → (e ≡ x → ⊥) → aims (R .act (n .slot e .body)) ≡ true
+      → makesLocality n x (R .target (n .slot e .body)) ≡ false
   target-elsewhere e p ne a =
       let l = R .target (n .slot e .body) in
       fails (makesLocality n x l)
@@ -199,15 +200,15 @@ module _ {R : Rules} (n : Net R) (ok : Accepted n) (x : ℕ) (u : Undoable n x) 
       formed k (same m a q) = rw q (ok .formed k)
 
       taken : (k : ℕ) → n′ .slot k .kind ≡ consumed → Way k → (f : ℕ) × (takes n′ f k ≡ true)
-      taken k h (made-free m q) = absurd (true≢false (sym (ap isConsumed h) ∙ ap (λ (s : Slot R). isConsumed (s .kind)) q))
-      taken k h (itself z q) = absurd (true≢false (sym (ap isConsumed h) ∙ ap (λ (s : Slot R). isConsumed (s .kind)) q ∙ forget-not-consumed (n .slot k)))
-      taken k h (given-back t q) = absurd (true≢false (sym (ap isConsumed h) ∙ ap (λ (s : Slot R). isConsumed (s .kind)) q ∙ forget-not-consumed (n .slot k)))
+      taken k h (made-free m q) = absurd (true≢false (sym (ap isConsumed h) ∙ ap isConsumed (kind-eq q)))
+      taken k h (itself z q) = absurd (true≢false (sym (ap isConsumed h) ∙ ap isConsumed (kind-eq q) ∙ forget-not-consumed (n .slot k)))
+      taken k h (given-back t q) = absurd (true≢false (sym (ap isConsumed h) ∙ ap isConsumed (kind-eq q) ∙ forget-not-consumed (n .slot k)))
       taken k h (untouched m z t q) =
-          let (f, tf) = ok .consumed-taken k (ap (λ (s : Slot R). s .kind) (sym q) ∙ h) in
+          let (f, tf) = ok .consumed-taken k (kind-eq (sym q) ∙ h) in
           (f, said-still (tookTuple k) (took-past k) f (λ e. clash (takes n x k) (ap (λ (j : ℕ). takes n j k) (sym e) ∙ tf) t) tf)
 
       untaken : (f k : ℕ) → n′ .slot k .kind ≡ tuple → takes n′ f k ≡ true → Way k → ⊥
-      untaken f k h t (made-free m q) = let z = ap (λ (s : Slot R). s .kind) q in true≢false cc
+      untaken f k h t (made-free m q) = let z = kind-eq q in true≢false cc
       untaken f k h t (itself z q) =
           let c = take-consumed n ok f k (said-before (tookTuple k) (took-past k) f t) in
           true≢false (sym (u .is-past) ∙ ap (events n) (sym z) ∙ ap isPast c)
@@ -215,7 +216,7 @@ module _ {R : Rules} (n : Net R) (ok : Accepted n) (x : ℕ) (u : Undoable n x) 
           said-not-x (tookTuple k) (took-past k) f t (ok .taken-once f x k (said-before (tookTuple k) (took-past k) f t) m)
       untaken f k h t (untouched m z w q) =
           clash (takes n f k) (said-before (tookTuple k) (took-past k) f t)
-          (ok .live-untaken f k (ap (λ (s : Slot R). s .kind) (sym q) ∙ h))
+          (ok .live-untaken f k (kind-eq (sym q) ∙ h))
 
       present-made : (l : ℕ) → l ∈ R .makeable → n′ .present l ≡ isMadeLocality n′ l
       present-made l m =
@@ -266,12 +267,12 @@ module _ {R : Rules} (n : Net R) (ok : Accepted n) (x : ℕ) (u : Undoable n x) 
           }
 
       roots : (k : ℕ) → k ∈ held n′ → k ∉ isMade n′ → Way k → Root n′ (n′ .slot k)
-      roots k h b (made-free m q) = clash (held n′ k) h (ap (λ (s : Slot R). not (isFree (s .kind))) q)
+      roots k h b (made-free m q) = clash (held n′ k) h (ap isHeld (kind-eq q))
       roots k h b (itself z q) =
           let p : k ∈ events n = ap (events n) z ∙ u .is-past in
           root-still k (made-no-event k p) (event-held n ok k p) b
       roots k h b (given-back t q) =
           let c = take-consumed n ok x k t in
           root-still k (fails (makes n x k) (λ m. clash (isConsumed (n .slot k .kind)) (ap isConsumed c) (live-not-consumed (n .slot k .kind) (u .made-live k m))))
-          (ap (λ (c : Kind). not (isFree c)) c) b
-      roots k h b (untouched m z t q) = root-still k m (ap (λ (s : Slot R). not (isFree (s .kind))) (sym q) ∙ h) b
+          (ap isHeld c) b
+      roots k h b (untouched m z t q) = root-still k m (ap isHeld (kind-eq (sym q)) ∙ h) b

@@ -1,11 +1,11 @@
 -- What is proved of nets, over any rules and any number of keys: each theorem under the sentence that it answers.
 --
--- In order: acceptance is kept, and accepted is reached; both loops; what may be undone; made localities; references; undoing of sets;
--- demand 3, and what a rollback reports.
+-- In order: accepted is reached, and tested; undoing of sets; forward steps; backward steps, both loops, and what may be undone; made
+-- localities; references; demand 3, and what a rollback reports.
 -- Assumes nothing.
 use mathlib.Core.Path.{_≡_, sym}
 use mathlib.Core.Logic.{_↔_}
-use mathlib.Core.Bool.{true, _&&_}
+use mathlib.Core.Bool.{Bool, true, _&&_}
 use Prim.Native.Nat.{ℕ, _≤_, _<_}
 use lib.Dec.{eqb}
 use Rattle.order.specs.KeySets.{Set, _∈_, _∪_, empty, any, count}
@@ -15,20 +15,29 @@ use Rattle.nets.specs.Rules.{Rules, aims}
 use Rattle.nets.specs.Net.{Net, freeSlot, events, held, makesLocality, isMade, depends, dependents, MadeAfter}
 use Rattle.nets.specs.Forward.{Request, forward, Can, Forward}
 use Rattle.nets.specs.Undo.{madeBy, undoSet, undo, rollback, undone, touched, Undoable, Backward}
-use Rattle.nets.specs.Accepted.{Accepted}
+use Rattle.nets.specs.Accepted.{Bounded, Accepted}
 use Rattle.nets.specs.Events.{over, undoable-last, last-undoable}
 use Rattle.nets.specs.Origins.{concerns, target-concerns, Alone, Reference}
 use Rattle.nets.specs.Origins as O
 use Rattle.nets.specs.Undone.{closed-whole, undo-union, touched-made}
 use Rattle.nets.specs.Backward as B
 use Rattle.nets.specs.Onward as F
+use Rattle.nets.specs.Loops.{again}
 use Rattle.nets.specs.Loops as L
 use Rattle.nets.specs.Rollback as K
 use Rattle.nets.specs.Reached as P
+use Rattle.nets.specs.Accepting.{accepted}
+use Rattle.nets.specs.AcceptedTest.{accepted-test}
 
 -- "Proved: the accepted nets are exactly those that forward steps reach from accepted nets with no past process (004, Definition 1)."
 pub accepted-iff-reached : {R : Rules} (n : Net R) → Accepted n ↔ P.Reached n
 accepted-iff-reached n = P.accepted-iff n
+
+-- The test of acceptance says so: true exactly when the net is accepted. It needs a test of equal contents, and a number above all
+-- localities that need a maker.
+pub accepted-iff-tested : {R : Rules} (same : R .Body → R .Body → Bool) (same-iff : (a b : R .Body) → (same a b ≡ true) ↔ (a ≡ b)) (L : ℕ)
+    → ((l : ℕ) → l ∈ R .makeable → l < L) → (n : Net R) → Bounded n → (accepted same L n ≡ true) ↔ Accepted n
+accepted-iff-tested same same-iff L few n bound = accepted-test same same-iff L few n bound
 
 -- Undoing a set that holds its dependents, and then another, is undoing both together.
 pub undo-both : {R : Rules} (n : Net R) (S T : Set) → Closed (depends n) S → undoSet (undoSet n S) T ≡ undoSet n (S ∪ T)
@@ -59,10 +68,10 @@ module _ {R : Rules} (n : Net R) (ok : Accepted n) where
   undo-accepted x u = B.undo-accepted n ok x u
 
   -- Demand 2: "a backward step and the same request forward do too": the request is allowed, and gives the net back.
-  pub undo-again : (x : ℕ) → Undoable n x → Can (undo n x) (L.again n x)
+  pub undo-again : (x : ℕ) → Undoable n x → Can (undo n x) (again n x)
   undo-again x u = L.again-can n ok x u
 
-  pub back-then-forward : (x : ℕ) → Undoable n x → forward (undo n x) (L.again n x) ≡ n
+  pub back-then-forward : (x : ℕ) → Undoable n x → forward (undo n x) (again n x) ≡ n
   back-then-forward x u = L.undo-forward n ok x u
 
   -- Both loops, of steps as relations: what goes forward comes back, and what comes back goes forward.
@@ -91,7 +100,8 @@ module _ {R : Rules} (n : Net R) (ok : Accepted n) where
     pub made-locality-event : (f : ℕ) → f ∈ events n → concerns R l (n .slot f .body) ≡ true → Reach (depends n) x f
     made-locality-event f p c = O.locality-event n ok x l made f p c
 
-    pub made-locality-target : (f : ℕ) → f ∈ events n → aims (R .act (n .slot f .body)) ≡ true → R .target (n .slot f .body) ≡ l → Reach (depends n) x f
+    pub made-locality-target : (f : ℕ) → f ∈ events n → aims (R .act (n .slot f .body)) ≡ true → R .target (n .slot f .body) ≡ l
+        → Reach (depends n) x f
     made-locality-target f p a e =
         O.locality-event n ok x l made f p (target-concerns R l (n .slot f .body) (O.locality-needs n ok x l made) a e)
 

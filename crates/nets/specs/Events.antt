@@ -1,7 +1,9 @@
 -- What holds of the events of an accepted net, and when an event may be undone.
 --
--- In order: keys that are held are keys (`held-below`, `event-below`); used tuples (`used-tuple`, `take-consumed`, `read-tuple`,
--- XX undoable exactly when nothing depends directly (`undoable-last`, `last-undoable`).
+-- In order: the three clauses of dependence, as a test and as a statement (`cause-depends`, `depends-cause`); keys that are held are keys
+-- (`held-below`, `event-below`), and all dependence is among the events (`among`); tuples that are used (`used-tuple`, `take-consumed`,
+-- `read-tuple`, `take-or-read`); what was made is held (`made-there`, `made-held`); an event may be undone exactly when nothing depends on
+-- it directly (`undoable-last`, `last-undoable`).
 -- Assumes nothing.
 use mathlib.Core.Path.{_≡_, refl, sym, _∙_, ap}
 use mathlib.Core.Logic.{_⊎_, inl, inr, ⊎-elim, by-cases}
@@ -14,11 +16,11 @@ use Rattle.order.specs.Tests.{or-left, or-right, or-cases, fails}
 use Rattle.order.specs.KeySets.{_∈_}
 use Rattle.order.specs.Graphs.{Among, among-over, Over, Last}
 use Rattle.nets.specs.Rules.{Rules, none, uses, isTake, isRead, take-uses, read-uses}
-use Rattle.nets.specs.Net.{Cause, made-key, made-tuple, read-before, Kind, free, live, past, tuple, consumed, isFree, isPast, isConsumed, Slot, Net, forget, events, held, makes, takes, reads, depends}
+use Rattle.nets.specs.Net.{isHeld, Cause, made-key, made-tuple, read-before, Kind, free, live, past, tuple, consumed, isFree, isPast, isConsumed, Net, forget, events, held, makes, takes, reads, depends}
 use Rattle.nets.specs.Rule.{met, product}
 use Rattle.nets.specs.Undo.{Undoable}
-use Rattle.nets.specs.Accepted.{Accepted}
-use Rattle.nets.specs.Records.{past-kind, live-not-past, live-not-consumed, live-held, forget-free, forget-tuple, made-past, made-below, took-past, took-act, took-is, took-of, read-past, read-act, read-is, read-of, Made, made-way, made-live-kind}
+use Rattle.nets.specs.Accepted.{Bounded, Accepted}
+use Rattle.nets.specs.Records.{kind-eq, past-held, live-not-past, live-not-consumed, live-held, forget-free, forget-tuple, made-past, made-below, took-past, took-act, took-is, took-of, read-past, read-act, read-is, read-of, Made, made-way, made-live-kind}
 
 module _ {R : Rules} where
   -- ---- dependence, clause by clause
@@ -48,35 +50,46 @@ module _ {R : Rules} where
   cause-past n e f (made-tuple h) = made-past (n .slot f .used) (n .slot e) h
   cause-past n e f (read-before h k) = read-past (n .slot f .used) (n .slot e) h
 
-  module _ (n : Net R) (ok : Accepted n) where
-    -- ---- keys
+  -- ---- keys
 
-    pub held-below : (k : ℕ) → k ∈ held n → k < R .keys
-    held-below k h =
-        by-cases (decLt k (R .keys)) (λ l. l)
-        (λ l. clash (held n k) h (ap (λ (s : Slot R). not (isFree (s .kind))) (ok .bound k (omega arith))))
+  -- where nothing is held from the number of keys on, all that is held, and all dependence, is below it
+  module _ (n : Net R) (bound : Bounded n) where
+    pub bounded-held : (k : ℕ) → k ∈ held n → k < R .keys
+    bounded-held k h =
+        by-cases (decLt k (R .keys)) (λ l. l) (λ l. clash (held n k) h (ap isHeld (kind-eq (bound k (omega arith)))))
 
-    pub event-held : (e : ℕ) → e ∈ events n → e ∈ held n
-    event-held e p = ap (λ (c : Kind). not (isFree c)) (past-kind (n .slot e .kind) p)
+    pub bounded-event : (e : ℕ) → e ∈ events n → e < R .keys
+    bounded-event e p = bounded-held e (past-held (n .slot e .kind) p)
 
-    pub event-below : (e : ℕ) → e ∈ events n → e < R .keys
-    event-below e p = held-below e (event-held e p)
-
-    -- all edges are among the events
-    pub among : Among (R .keys) (depends n) (events n)
-    among =
+    pub bounded-among : Among (R .keys) (depends n) (events n)
+    bounded-among =
         record {
-          below = event-below;
+          below = bounded-event;
           source = λ e f s. cause-past n e f (depends-cause n e f s .1);
           target = λ e f s. depends-cause n e f s .0;
         }
+
+  module _ (n : Net R) (ok : Accepted n) where
+    pub held-below : (k : ℕ) → k ∈ held n → k < R .keys
+    held-below = bounded-held n (ok .bound)
+
+    pub event-held : (e : ℕ) → e ∈ events n → e ∈ held n
+    event-held e p = past-held (n .slot e .kind) p
+
+    pub event-below : (e : ℕ) → e ∈ events n → e < R .keys
+    event-below = bounded-event n (ok .bound)
+
+    -- all dependence is among the events
+    pub among : Among (R .keys) (depends n) (events n)
+    among = bounded-among n (ok .bound)
 
     pub over : Over (R .keys) (depends n)
     over = among-over among
 
     -- ---- tuples that are used
 
-    pub used-tuple : (f : ℕ) → f ∈ events n → uses (R .act (n .slot f .body)) ≡ true → (n .slot (n .slot f .used) .kind ≡ tuple) ⊎ (n .slot (n .slot f .used) .kind ≡ consumed)
+    pub used-tuple : (f : ℕ) → f ∈ events n → uses (R .act (n .slot f .body)) ≡ true
+        → (n .slot (n .slot f .used) .kind ≡ tuple) ⊎ (n .slot (n .slot f .used) .kind ≡ consumed)
     used-tuple f p u = forget-tuple (n .slot (n .slot f .used)) (ok .agrees f p .rule .meets u)
 
     pub take-consumed : (f k : ℕ) → takes n f k ≡ true → n .slot k .kind ≡ consumed
@@ -96,7 +109,8 @@ module _ {R : Rules} where
         (used-tuple f (read-past k (n .slot f) h) (read-uses (R .act (n .slot f .body)) (read-act k (n .slot f) h)))
 
     -- an event whose byte 5 holds a key took or read it
-    pub take-or-read : (f : ℕ) → f ∈ events n → n .slot f .used < R .keys → (takes n f (n .slot f .used) ≡ true) ⊎ (reads n f (n .slot f .used) ≡ true)
+    pub take-or-read : (f : ℕ) → f ∈ events n → n .slot f .used < R .keys
+        → (takes n f (n .slot f .used) ≡ true) ⊎ (reads n f (n .slot f .used) ≡ true)
     take-or-read f p l =
         cases (uses (R .act (n .slot f .body)))
         (λ u.
@@ -116,7 +130,7 @@ module _ {R : Rules} where
     pub made-held : (e k : ℕ) → makes n e k ≡ true → k ∈ held n
     made-held e k h =
         ap not
-        (sym (forget-free (n .slot k)) ∙ ap (λ (s : Slot R). isFree (s .kind)) (made-there e k h) ∙
+        (sym (forget-free (n .slot k)) ∙ ap isFree (kind-eq (made-there e k h)) ∙
         live-held (product e (n .slot e) (met n (n .slot e) .body) k .kind)
         (made-live-kind e (n .slot e) (met n (n .slot e) .body) k (made-as e k h)))
 
@@ -159,7 +173,7 @@ module _ {R : Rules} where
         used-by k f h p e = none-after f p (made-tuple (rw e h))
 
         live-of : (k : ℕ) → makes n x k ≡ true → (c : Kind) → n .slot k .kind ≡ c → (c ≡ live) ⊎ (c ≡ tuple)
-        live-of k h free e = clash (held n k) (made-held x k h) (ap (λ (c : Kind). not (isFree c)) e)
+        live-of k h free e = clash (held n k) (made-held x k h) (ap isHeld e)
         live-of k h live e = inl refl
         live-of k h past e = absurd (none-after k (ap isPast e) (made-key h))
         live-of k h tuple e = inr refl

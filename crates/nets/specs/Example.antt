@@ -1,23 +1,25 @@
 -- The laws are not about nothing: smallest rules that obey them, and an accepted net with a past that they are about.
 --
--- In order: rules under which a process is a list of acts, all at locality 0 (`lists`); a net with one process (`before`); its out (`once`) and
--- then its in of its own tuple (`twice`); that they are accepted; that the in is a dependent of the out (`out-undone`), and what its rollback
--- touches (`out-touched`).
+-- In order: rules under which a process is a list of acts, all at locality 0 (`lists`); a net with one process (`before`); its out (`once`)
+-- and then its in of its own tuple (`twice`); that they are accepted; that the in is a dependent of the out (`out-undone`), and what its
+-- rollback touches (`out-touched`); that the test of acceptance computes, to yes and to no (`twice-tested`, `torn-tested`).
 -- Assumes nothing.
 use mathlib.Core.Path.{_≡_, refl, sym, _∙_}
 use mathlib.Core.Logic.{_⊎_, inl, inr}
-use mathlib.Core.Bool.{Bool, true, false, true≢false, false≢true}
+use mathlib.Core.Bool.{Bool, true, false, _&&_, true≢false, false≢true}
 use mathlib.Core.List.{List, [], _∷_}
 use Prim.Native.Nat.{ℕ, zero, suc, _≤_}
 use native.Mathlib.Omega.{arith}
 use lib.Dec.{eqb}
 use borrow.Author.Tests.{eqb-true, ne-eqb}
-use Rattle.laws.specs.Choice.{clash}
+use Rattle.laws.specs.Choice.{pick, clash}
+use Rattle.laws.specs.Checks.{all}
 use Rattle.order.specs.KeySets.{any, any-not, count}
 use Rattle.order.specs.Tests.{fails}
 use Rattle.order.specs.Dependents as D
-use Rattle.nets.specs.Rules.{Rules, none, Act, nil, out, take}
-use Rattle.nets.specs.Net.{free, live, consumed, Slot, Net, freeSlot, fresh, madeKey, tookTuple, readTuple, madeLocality, events, makes, takes, makesLocality, depends}
+use Rattle.order.specs.Peeling.{last, peel, acyclic}
+use Rattle.nets.specs.Rules.{Rules, none, Act, number, nil, out, take}
+use Rattle.nets.specs.Net.{free, live, consumed, Slot, Net, freeSlot, fresh, forget, madeKey, tookTuple, readTuple, madeLocality, events, makes, takes, makesLocality, depends}
 use Rattle.nets.specs.Rule.{product}
 use Rattle.nets.specs.Forward.{Request, done, forward, Can}
 use Rattle.nets.specs.Undo.{undone, rollback, touched, undoSet, madeBy, takenBy, againBy, localityBy}
@@ -25,6 +27,7 @@ use Rattle.nets.specs.Accepted.{Formed, Accepted}
 use Rattle.nets.specs.Records.{OfEvents, made-past, made-below, made-cases, took-past, locality-past}
 use Rattle.nets.specs.Events.{depends-cause}
 use Rattle.nets.specs.Onward.{forward-accepted}
+use Rattle.nets.specs.Accepting.{placed, fitting, ruled, saidOnce, onceEach, tuplesRight, localitiesRight, rootsRight, sameSlot, formed, agreed, accepted}
 
 abbrev headOf : List Act → Act
 headOf [] = nil
@@ -209,3 +212,23 @@ out-undone = refl
 pub out-touched : touched twice (rollback twice 0) 0 ≡ true
 unfolding forward product madeKey tookTuple readTuple madeLocality depends any D.dependents D.closure D.rounds D.grow touched undoSet madeBy takenBy againBy localityBy
 out-touched = refl
+
+-- ---- the test of acceptance computes
+
+abbrev sameActs : List Act → List Act → Bool
+sameActs [] [] = true
+sameActs [] (b ∷ m) = false
+sameActs (a ∷ l) [] = false
+sameActs (a ∷ l) (b ∷ m) = eqb (number a) (number b) && sameActs l m
+
+pub twice-tested : accepted sameActs 9 twice ≡ true
+unfolding accepted formed agreed ruled placed fitting sameSlot onceEach saidOnce tuplesRight localitiesRight rootsRight acyclic peel last D.rounds all any depends forward product madeKey tookTuple readTuple madeLocality
+twice-tested = refl
+
+-- the tuple that the in took, live again while the in is past
+abbrev torn : Net lists
+torn = record { present = twice .present; slot = λ k. pick (eqb k 2) (forget (twice .slot k)) (twice .slot k) }
+
+pub torn-tested : accepted sameActs 9 torn ≡ false
+unfolding accepted formed agreed ruled placed fitting sameSlot onceEach saidOnce tuplesRight localitiesRight rootsRight acyclic peel last D.rounds all any depends forward product madeKey tookTuple readTuple madeLocality
+torn-tested = refl

@@ -40,9 +40,9 @@ module _ {R : Rules} where
   pub record Can (n : Net R) (r : Request) : Type 0 where
     -- not refused by 4: the key is a live process
     pub is-live : n .slot (r .key) .kind ≡ live
-    -- nor by 5, 6, 7, 8 and 10
+    -- nor by 5, 6, 7, 8 and 10; nor by 9 for a tuple elsewhere, nor by 11 for equal keys or a locality below 8
     pub rule : Rule n (done n r)
-    -- nor by 9: the tuple is live
+    -- nor by 9: it is a live tuple
     pub tuple-live : uses (R .act (n .slot (r .key) .body)) ≡ true → n .slot (r .used) .kind ≡ tuple
     -- nor by 11: fresh keys are free, a fresh locality is absent
     pub fresh-keys : (k : ℕ) → madeKey k (done n r) ≡ true → n .slot k .kind ≡ free

@@ -1,7 +1,7 @@
 -- Both loops of an accepted net: a forward step and then its undoing, and an undoing and then the same request forward, give the net back.
 --
--- In order: forward and back (`forward-undo`); the request that repeats an event (`again`), that it is allowed once the event is undone
--- (`again-can`), and what it gives (`undo-forward`); both as relations of nets (`loop-forward`, `loop-backward`).
+-- In order: forward and back (`forward-undo`); what the request that repeats an event (`again`) gives once the event is undone (`undo-forward`), and
+-- that it is allowed (`again-can`); both as relations of nets (`loop-forward`, `loop-backward`).
 -- Assumes nothing.
 use mathlib.Core.Path.{_≡_, refl, sym, _∙_, ap, ap₂, subst}
 use mathlib.Core.Logic.{_⊎_, inl, inr}
@@ -13,12 +13,12 @@ use Rattle.laws.specs.Choice.{cases, clash}
 use Rattle.order.specs.Tests.{or-right, or-cases, fails}
 use Rattle.order.specs.KeySets.{_∈_, _∉_, only, any-of}
 use Rattle.nets.specs.Rules.{Rules, uses, isTake, isRead, isNewloc, aims-stay}
-use Rattle.nets.specs.Net.{Kind, live, tuple, consumed, isFree, Slot, Net, freeSlot, fresh, forget, held, madeKey, tookTuple, madeLocality, makes, takes, makesLocality}
+use Rattle.nets.specs.Net.{isHeld, Kind, live, tuple, consumed, Slot, Net, freeSlot, fresh, forget, held, madeKey, tookTuple, madeLocality, makes, takes, makesLocality}
 use Rattle.nets.specs.Rule.{met, product, Rule}
 use Rattle.nets.specs.Forward.{Request, done, after, forward, Can, Forward}
 use Rattle.nets.specs.Undo.{undo, Undoable, Backward}
 use Rattle.nets.specs.Accepted.{Formed, Accepted}
-use Rattle.nets.specs.Records.{past-kind, same-slot, forget-live, forget-past, took-of, read-of, locality-act, locality-of, locality-makeable, rule-over}
+use Rattle.nets.specs.Records.{kind-eq, past-kind, same-slot, forget-live, forget-past, took-of, read-of, locality-act, locality-of, locality-makeable, rule-over}
 use Rattle.nets.specs.Events.{event-below, take-consumed}
 use Rattle.nets.specs.Undone.{body-kept}
 use Rattle.nets.specs.Backward as B
@@ -54,10 +54,10 @@ module _ {R : Rules} (n : Net R) (ok : Accepted n) (r : Request) (can : Can n r)
           q ∙ sym (subst (λ (c : Kind). Formed c (n .slot k)) (can .fresh-keys k (O.by-x n ok r can (madeKey k) (r .key) refl h)) (ok .formed k))
       each (B.itself z q) =
           let l : n .slot k .kind ≡ live = ap (λ (j : ℕ). n .slot j .kind) z ∙ can .is-live in
-          q ∙ live-again k (inl l) (ap (λ (c : Kind). not (isFree c)) l)
+          q ∙ live-again k (inl l) (ap isHeld l)
       each (B.given-back w q) =
           let l = O.took-live n ok r can k (O.by-x n ok r can (tookTuple k) (r .key) refl w) in
-          q ∙ live-again k (inr l) (ap (λ (c : Kind). not (isFree c)) l)
+          q ∙ live-again k (inr l) (ap isHeld l)
       each (B.untouched h z w q) = q ∙ new-again h w z (O.way n ok r can k)
 
   present-back : (l : ℕ) → undo m (r .key) .present l ≡ n .present l
@@ -72,7 +72,7 @@ module _ {R : Rules} (n : Net R) (ok : Accepted n) (r : Request) (can : Can n r)
 
 -- ---- back, and forward again
 
--- "The request that repeats an event" has what its record holds.
+-- the request that repeats an event has what its record holds
 abbrev pub again : {R : Rules} → Net R → ℕ → Request
 again n x =
     let s = n .slot x in
@@ -161,10 +161,10 @@ module _ {R : Rules} (n : Net R) (ok : Accepted n) (x : ℕ) (u : Undoable n x) 
 
       each : B.Way n ok x u (s .used) → n′ .slot (s .used) .kind ≡ tuple
       each (B.made-free v q) = clash (makes n x (s .used)) v (B.used-elsewhere n ok x u x (u .is-past))
-      each (B.itself e q) = ap (λ (t : Slot R). t .kind) q ∙ was
-      each (B.given-back v q) = ap (λ (t : Slot R). t .kind) q ∙ was
+      each (B.itself e q) = kind-eq q ∙ was
+      each (B.given-back v q) = kind-eq q ∙ was
       each (B.untouched v e w q) =
-          ap (λ (t : Slot R). t .kind) q ∙
+          kind-eq q ∙
           or-cases (isTake (R .act (s .body))) (isRead (R .act (s .body))) h (λ a. clash (takes n x (s .used)) (took-of s (u .is-past) a) w)
           (λ a. u .read-live (s .used) (read-of s (u .is-past) a))
 
@@ -174,14 +174,14 @@ module _ {R : Rules} (n : Net R) (ok : Accepted n) (x : ℕ) (u : Undoable n x) 
         is-live = live-self (B.way n ok x u x);
         rule = rw done-again rule-again;
         tuple-live = λ h. tuple-again (ap (λ (d : Slot R). uses (R .act (d .body))) (sym done-again) ∙ h);
-        fresh-keys = λ k h. ap (λ (t : Slot R). t .kind) (freed k (ap (madeKey k) (sym done-again) ∙ h));
+        fresh-keys = λ k h. kind-eq (freed k (ap (madeKey k) (sym done-again) ∙ h));
         fresh-place = λ h. absent (ap (λ (d : Slot R). isNewloc (R .act (d .body))) (sym done-again) ∙ h);
       }
     where
       live-self : B.Way n ok x u x → n′ .slot x .kind ≡ live
       live-self (B.made-free h q) = clash (makes n x x) h (B.made-no-event n ok x u x (u .is-past))
-      live-self (B.itself e q) = ap (λ (t : Slot R). t .kind) (q ∙ forget-past s (past-kind (s .kind) (u .is-past)))
-      live-self (B.given-back w q) = ap (λ (t : Slot R). t .kind) (q ∙ forget-past s (past-kind (s .kind) (u .is-past)))
+      live-self (B.itself e q) = kind-eq (q ∙ forget-past s (past-kind (s .kind) (u .is-past)))
+      live-self (B.given-back w q) = kind-eq (q ∙ forget-past s (past-kind (s .kind) (u .is-past)))
       live-self (B.untouched h z w q) = absurd (z refl)
 
       freed : (k : ℕ) → makes n x k ≡ true → n′ .slot k ≡ freeSlot

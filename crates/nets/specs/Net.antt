@@ -1,12 +1,12 @@
 -- Nets of keyed records, what a past process's record says, and dependence. Document 01, "Net" and "Backward steps and dependence".
 --
--- In order: kinds of slots (`Kind`); `Slot`, its `body` (what never changes while the key is held) and its history; records as they are made
--- (`fresh`) and the forgetting of history (`forget`); `Net`, its `events`; what an event's record says, as tests on a slot (`madeKey`,
--- `tookTuple`, `readTuple`, `madeLocality`) and on a net (`makes`, `takes`, `reads`, `makesLocality`); direct dependence as a test (`depends`) and
--- as a statement (`Cause`; `Events` has the law that they agree); `dependents`, and what a dependent made (`MadeAfter`).
+-- In order: kinds of slots (`Kind`); `Slot`, its `body` (what never changes while the key is held) and its history; records as they are
+-- made (`fresh`) and the forgetting of history (`forget`); `Net`, its `events`; what an event's record says, as tests on a slot (`madeKey`,
+-- `tookTuple`, `readTuple`, `madeLocality`) and on a net (`makes`, `takes`, `reads`, `makesLocality`); direct dependence as a test
+-- (`depends`) and as a statement (`Cause`; `Events` has the law that they agree); `dependents`, and what a dependent made (`MadeAfter`).
 -- Assumes nothing.
 use mathlib.Core.Path.{_≡_}
-use mathlib.Core.Bool.{Bool, true, false, not, _&&_, _||_}
+use mathlib.Core.Bool.{Bool, true, not, _&&_, _||_}
 use Prim.Native.Nat.{ℕ}
 use lib.Dec.{eqb, ltb}
 use Rattle.order.specs.KeySets.{Set, any}
@@ -20,26 +20,27 @@ use Rattle.nets.specs.Rules.{Rules, none, isTake, isRead, isNewloc}
 pub data Kind : Type 0 where
   free live past tuple consumed : Kind
 
+abbrev pub kindNumber : Kind → ℕ
+kindNumber free = 0
+kindNumber live = 1
+kindNumber past = 2
+kindNumber tuple = 3
+kindNumber consumed = 4
+
 abbrev pub isFree : Kind → Bool
-isFree free = true
-isFree live = false
-isFree past = false
-isFree tuple = false
-isFree consumed = false
+isFree c = eqb (kindNumber c) 0
+
+abbrev pub isHeld : Kind → Bool
+isHeld c = not (isFree c)
 
 abbrev pub isPast : Kind → Bool
-isPast free = false
-isPast live = false
-isPast past = true
-isPast tuple = false
-isPast consumed = false
+isPast c = eqb (kindNumber c) 2
+
+abbrev pub isLiveTuple : Kind → Bool
+isLiveTuple c = eqb (kindNumber c) 3
 
 abbrev pub isConsumed : Kind → Bool
-isConsumed free = false
-isConsumed live = false
-isConsumed past = false
-isConsumed tuple = false
-isConsumed consumed = true
+isConsumed c = eqb (kindNumber c) 4
 
 -- "Slot: 0 kind; 1 locality; 2 node, or field count; 3 and 4 keys made; 5 tuple used; 6 locality made; eight tags; eight numbers; references":
 -- locality, node or fields, variables and references are the body, the other four the history.
@@ -84,7 +85,7 @@ module _ {R : Rules} where
 
   -- the keys that hold a record
   abbrev pub held : Net R → Set
-  held n k = not (isFree (n .slot k .kind))
+  held n k = isHeld (n .slot k .kind)
 
   -- ---- what an event's record says
 

@@ -1,13 +1,13 @@
 -- The forward step of an accepted net: what it changes, that it keeps acceptance, and that its event may be undone.
 --
 -- In order: what becomes of a slot (`Way`, `way`); records but for what happened to them stay (`stays`), events keep theirs (`still`,
--- `event-before`); what events' records say (`said-before`, `said-still`, `said-once`); the new event agrees with its rule (`agrees-new`) and the
--- others still do (`agrees-still`); nothing depends on the new event (`nothing-after`); acceptance is kept (`forward-accepted`); the step can be
--- taken back (`forward-undoable`), and touches nothing (`forward-touches`).
+-- `event-before`); what events' records say (`said-before`, `said-still`, `said-once`); the new event agrees with its rule (`agrees-new`)
+-- and the others still do (`agrees-still`); nothing depends on the new event (`nothing-after`); acceptance is kept (`forward-accepted`);
+-- the step can be taken back (`forward-undoable`), and touches nothing (`forward-touches`).
 -- Assumes nothing.
 use mathlib.Core.Path.{_≡_, refl, sym, _∙_, ap, subst, fun-ext}
 use mathlib.Core.Logic.{_⊎_, inl, inr, ⊎-elim}
-use mathlib.Core.Bool.{Bool, true, false, not, _&&_, _||_, true≢false}
+use mathlib.Core.Bool.{Bool, true, false, _&&_, _||_, true≢false}
 use Prim.Native.Nat.{ℕ, _≤_, _<_}
 use native.Mathlib.Omega.{arith}
 use lib.Dec.{eqb}
@@ -17,12 +17,12 @@ use Rattle.order.specs.Tests.{or-left, or-right, or-cases, fails, agree}
 use Rattle.order.specs.KeySets.{_∈_, _∉_, empty, any-of, any-some, any-not}
 use Rattle.order.specs.Graphs.{acyclic-more}
 use Rattle.nets.specs.Rules.{Rules, none, uses, take-uses, read-uses, take-not-read}
-use Rattle.nets.specs.Net.{Cause, made-key, made-tuple, read-before, Kind, free, live, tuple, consumed, isFree, isPast, isConsumed, Slot, Net, freeSlot, fresh, forget, events, held, madeKey, tookTuple, readTuple, madeLocality, makes, takes, makesLocality, isMade, isMadeLocality, depends}
+use Rattle.nets.specs.Net.{isHeld, Cause, made-key, made-tuple, read-before, Kind, free, live, tuple, consumed, isFree, isPast, isConsumed, Slot, Net, freeSlot, fresh, forget, events, held, madeKey, tookTuple, readTuple, madeLocality, makes, takes, makesLocality, isMade, isMadeLocality, depends}
 use Rattle.nets.specs.Rule.{met, product}
 use Rattle.nets.specs.Forward.{Request, done, after, forward, Can}
 use Rattle.nets.specs.Undo.{Undoable, becameFree, touched}
 use Rattle.nets.specs.Accepted.{Formed, Agrees, Root, Accepted}
-use Rattle.nets.specs.Records.{live-not-past, live-not-consumed, forget-body, forget-free, forget-live, OfEvents, made-past, made-below, took-past, took-act, took-is, read-act, read-is, locality-past, locality-is, locality-act, locality-makeable, Made, continuation, the-tuple, the-process, made-way, made-live-kind, rule-over, agrees-over}
+use Rattle.nets.specs.Records.{kind-eq, body-eq, live-not-past, live-not-consumed, forget-body, forget-free, forget-live, OfEvents, made-past, made-below, took-past, took-act, took-is, read-act, read-is, locality-past, locality-is, locality-act, locality-makeable, Made, continuation, the-tuple, the-process, made-way, made-live-kind, rule-over, agrees-over}
 use Rattle.nets.specs.Events.{depends-cause, cause-past, held-below, event-below, event-held, take-consumed, read-tuple, take-or-read, made-held, last-undoable}
 
 module _ {R : Rules} (n : Net R) (ok : Accepted n) (r : Request) (can : Can n r) where
@@ -40,7 +40,7 @@ module _ {R : Rules} (n : Net R) (ok : Accepted n) (r : Request) (can : Can n r)
   t = met n d .body
 
   x-held : x ∈ held n
-  x-held = ap (λ (c : Kind). not (isFree c)) (can .is-live)
+  x-held = ap isHeld (can .is-live)
 
   x-below : x < R .keys
   x-below = held-below n ok x x-held
@@ -93,11 +93,11 @@ module _ {R : Rules} (n : Net R) (ok : Accepted n) (r : Request) (can : Can n r)
   -- a held key is not a new one
   pub held-not-new : (k : ℕ) → k ∈ held n → madeKey k d ≡ false
   held-not-new k h =
-      fails (madeKey k d) (λ w. clash (held n k) h (ap (λ (c : Kind). not (isFree c)) (can .fresh-keys k w)))
+      fails (madeKey k d) (λ w. clash (held n k) h (ap isHeld (can .fresh-keys k w)))
 
   body-stays : (k : ℕ) → k ∈ held n → m .slot k .body ≡ n .slot k .body
   body-stays k h =
-      sym (forget-body (m .slot k)) ∙ ap (λ (s : Slot R). s .body) (stays k (held-not-new k h)) ∙ forget-body (n .slot k)
+      sym (forget-body (m .slot k)) ∙ body-eq (stays k (held-not-new k h)) ∙ forget-body (n .slot k)
 
   pub slot-x : m .slot x ≡ d
   slot-x = rw (slot-is x, held-not-new x x-held, eq-eqb x x refl)
@@ -121,10 +121,10 @@ module _ {R : Rules} (n : Net R) (ok : Accepted n) (r : Request) (can : Can n r)
     where
       each : Way e → e ∈ events n
       each (new w f q) =
-          clash (events m e) p (ap (λ (s : Slot R). isPast (s .kind)) q ∙ live-not-past (product x d t e .kind) (made-kind e w))
+          clash (events m e) p (ap isPast (kind-eq q) ∙ live-not-past (product x d t e .kind) (made-kind e w))
       each (itself z l q) = absurd (ne z)
-      each (eaten w l q) = clash (events m e) p (ap (λ (s : Slot R). isPast (s .kind)) q)
-      each (untouched w z l q) = sym (ap (λ (s : Slot R). isPast (s .kind)) q) ∙ p
+      each (eaten w l q) = clash (events m e) p (ap isPast (kind-eq q))
+      each (untouched w z l q) = sym (ap isPast (kind-eq q)) ∙ p
 
   is-x : (e : ℕ) → (e ≡ x) ⊎ (e ≡ x → ⊥)
   is-x e = cases (eqb e x) (λ q. inl (eqb-true e x q)) (λ q. inr (eqb-false e x q))
@@ -144,7 +144,9 @@ module _ {R : Rules} (n : Net R) (ok : Accepted n) (r : Request) (can : Can n r)
   by-x Q e z q = sym (ap Q (ap (m .slot) z ∙ slot-x)) ∙ q
 
   -- what was said once is, where the new event says nothing that another says
-  said-once : (Q : Slot R → Bool) → OfEvents Q → (Q d ≡ true → (g : ℕ) → Q (n .slot g) ≡ true → ⊥) → ((f g : ℕ) → Q (n .slot f) ≡ true → Q (n .slot g) ≡ true → f ≡ g) → (f g : ℕ) → Q (m .slot f) ≡ true → Q (m .slot g) ≡ true → f ≡ g
+  said-once : (Q : Slot R → Bool) → OfEvents Q → (Q d ≡ true → (g : ℕ) → Q (n .slot g) ≡ true → ⊥)
+      → ((f g : ℕ) → Q (n .slot f) ≡ true → Q (n .slot g) ≡ true → f ≡ g) → (f g : ℕ) → Q (m .slot f) ≡ true → Q (m .slot g) ≡ true
+      → f ≡ g
   said-once Q of apart old f g qf qg = each (is-x f) (is-x g)
     where
       each : (f ≡ x) ⊎ (f ≡ x → ⊥) → (g ≡ x) ⊎ (g ≡ x → ⊥) → f ≡ g
@@ -293,7 +295,7 @@ module _ {R : Rules} (n : Net R) (ok : Accepted n) (r : Request) (can : Can n r)
       bound : (k : ℕ) → R .keys ≤ k → Way k → m .slot k ≡ freeSlot
       bound k b (new w f q) = absurd (omega (arith, made-below k d w))
       bound k b (itself z l q) = absurd (omega (arith, x-below))
-      bound k b (eaten w l q) = absurd (omega (arith, held-below n ok k (ap (λ (c : Kind). not (isFree c)) l)))
+      bound k b (eaten w l q) = absurd (omega (arith, held-below n ok k (ap isHeld l)))
       bound k b (untouched w z l q) = q ∙ ok .bound k b
 
       formed : (k : ℕ) → Way k → Formed (m .slot k .kind) (m .slot k)
@@ -309,25 +311,25 @@ module _ {R : Rules} (n : Net R) (ok : Accepted n) (r : Request) (can : Can n r)
       taken : (k : ℕ) → m .slot k .kind ≡ consumed → Way k → (f : ℕ) × (takes m f k ≡ true)
       taken k h (new w f q) =
           clash (isConsumed (m .slot k .kind)) (ap isConsumed h)
-          (ap (λ (s : Slot R). isConsumed (s .kind)) q ∙ live-not-consumed (product x d t k .kind) (made-kind k w))
-      taken k h (itself z l q) = clash (isConsumed (m .slot k .kind)) (ap isConsumed h) (ap (λ (s : Slot R). isConsumed (s .kind)) q)
+          (ap isConsumed (kind-eq q) ∙ live-not-consumed (product x d t k .kind) (made-kind k w))
+      taken k h (itself z l q) = clash (isConsumed (m .slot k .kind)) (ap isConsumed h) (ap isConsumed (kind-eq q))
       taken k h (eaten w l q) = (x, said-x (tookTuple k) w)
       taken k h (untouched w z l q) =
-          let (f, tf) = ok .consumed-taken k (ap (λ (s : Slot R). s .kind) (sym q) ∙ h) in
+          let (f, tf) = ok .consumed-taken k (kind-eq (sym q) ∙ h) in
           (f, said-still (tookTuple k) (took-past k) f tf)
 
       -- what is taken after the step is no live tuple
       not-live : (k : ℕ) → tookTuple k d ≡ true → m .slot k .kind ≡ tuple → Way k → ⊥
       not-live k w h (new v f q) = let l = took-live k w in true≢false cc
       not-live k w h (itself z l q) = let l′ = took-live k w in true≢false cc
-      not-live k w h (eaten v l q) = let c = ap (λ (s : Slot R). s .kind) q in true≢false cc
+      not-live k w h (eaten v l q) = let c = kind-eq q in true≢false cc
       not-live k w h (untouched v z l q) = clash (tookTuple k d) w l
 
       not-consumed : (k : ℕ) → n .slot k .kind ≡ consumed → m .slot k .kind ≡ tuple → Way k → ⊥
       not-consumed k c h (new v f q) = true≢false cc
       not-consumed k c h (itself z l q) = true≢false cc
       not-consumed k c h (eaten v l q) = true≢false cc
-      not-consumed k c h (untouched v z l q) = let e = ap (λ (s : Slot R). s .kind) q in true≢false cc
+      not-consumed k c h (untouched v z l q) = let e = kind-eq q in true≢false cc
 
       untaken : (f k : ℕ) → m .slot k .kind ≡ tuple → takes m f k ≡ true → (f ≡ x) ⊎ (f ≡ x → ⊥) → Way k → ⊥
       untaken f k h w (inl z) v = not-live k (by-x (tookTuple k) f z w) h v
@@ -368,15 +370,15 @@ module _ {R : Rules} (n : Net R) (ok : Accepted n) (r : Request) (can : Can n r)
 
       roots : (k : ℕ) → k ∈ held m → k ∉ isMade m → Way k → Root m (m .slot k)
       roots k h b (new w f q) = clash (isMade m k) (any-of (R .keys) (λ e. makes m e k) x x-below (said-x (madeKey k) w)) b
-      roots k h b (itself z l q) = root-still k (ap (λ (c : Kind). not (isFree c)) l) b
-      roots k h b (eaten w l q) = root-still k (ap (λ (c : Kind). not (isFree c)) l) b
-      roots k h b (untouched w z l q) = root-still k (ap (λ (s : Slot R). not (isFree (s .kind))) (sym q) ∙ h) b
+      roots k h b (itself z l q) = root-still k (ap isHeld l) b
+      roots k h b (eaten w l q) = root-still k (ap isHeld l) b
+      roots k h b (untouched w z l q) = root-still k (ap isHeld (kind-eq (sym q)) ∙ h) b
 
   -- the step can be taken back
   pub forward-undoable : Undoable m x
   forward-undoable =
       last-undoable m forward-accepted x
-      (record { member = ap (λ (s : Slot R). isPast (s .kind)) slot-x; none = λ f s. absurd (nothing-after f s) })
+      (record { member = ap isPast (kind-eq slot-x); none = λ f s. absurd (nothing-after f s) })
 
   -- "0 for a forward step": no slot becomes free
   pub forward-touches : touched n m ≡ empty
@@ -390,5 +392,5 @@ module _ {R : Rules} (n : Net R) (ok : Accepted n) (r : Request) (can : Can n r)
       stays-held : (k : ℕ) → k ∈ held n → isFree (m .slot k .kind) ≡ true → ⊥
       stays-held k h f =
           clash (isFree (n .slot k .kind))
-          (sym (forget-free (n .slot k)) ∙ ap (λ (s : Slot R). isFree (s .kind)) (sym (stays k (held-not-new k h))) ∙ forget-free (m .slot k) ∙ f)
+          (sym (forget-free (n .slot k)) ∙ ap isFree (kind-eq (sym (stays k (held-not-new k h)))) ∙ forget-free (m .slot k) ∙ f)
           (not-true (isFree (n .slot k .kind)) h)

@@ -73,7 +73,8 @@ module _ {R : Rules} where
             let s = cause-depends n g f past (made-tuple mg) in
             more g f s (earlier g s t mg ht)
 
-        by-next : (Q (n .slot f .body) ≡ true) ⊎ (((uses (R .act (n .slot f .body)) ≡ true) × (Q (met n (n .slot f) .body) ≡ true)) ⊎ X f) → Sourced f
+        by-next : (Q (n .slot f .body) ≡ true) ⊎ (((uses (R .act (n .slot f .body)) ≡ true) × (Q (met n (n .slot f) .body) ≡ true)) ⊎ X f)
+            → Sourced f
         by-next (inl h) = own h
         by-next (inr (inl (u, h))) = from-tuple u h
         by-next (inr (inr b)) = (f, b, here)
@@ -132,7 +133,8 @@ module _ (R : Rules) where
       (λ q. or-left (R .names b l) _ (R .second-names b l m q))
       (λ q. lives (eqb-true (R .at (R .second b)) l q) (R .second-at b))
     where
-      lives : R .at (R .second b) ≡ l → (R .at (R .second b) ≡ R .at b) ⊎ ((aims (R .act b) ≡ true) × (R .at (R .second b) ≡ R .target b)) → concerns l b ≡ true
+      lives : R .at (R .second b) ≡ l
+          → (R .at (R .second b) ≡ R .at b) ⊎ ((aims (R .act b) ≡ true) × (R .at (R .second b) ≡ R .target b)) → concerns l b ≡ true
       lives e (inl q) = lives-concerns l b (sym q ∙ e)
       lives e (inr (a, q)) = target-concerns l b m a (sym q ∙ e)
 

@@ -1,32 +1,41 @@
 -- Laws of single records: forgetting, what an event's record says, and what a rule makes.
 --
--- In order: kinds (`past-kind`, `tuple-kind`, `live-not-past`); `forget` twice, and what it keeps; records with the same parts (`same-slot`);
--- what each test on a record says and what makes it true (`OfEvents`, `made-..`, `took-..`, `read-..`, `locality-..`); what stands at a key that was
--- made (`Made`, `made-way`); a rule and an agreement carried over to another net (`rule-over`, `agrees-over`).
+-- In order: kinds (`same-kind`, `past-kind`, `live-not-past` and the like); `forget` twice, and what it keeps; records with the same parts
+-- (`same-slot`); what each test on a record says and what makes it true (`OfEvents`, `made-..`, `took-..`, `read-..`, `locality-..`); what
+-- stands at a key that was made (`Made`, `made-way`); a rule and an agreement carried over to another net (`rule-over`, `agrees-over`).
 -- Assumes nothing.
 use mathlib.Core.Path.{_≡_, refl, sym, _∙_, ap, subst}
 use mathlib.Core.Logic.{_⊎_, inl, inr}
-use mathlib.Core.Bool.{Bool, true, false, not, true≢false, false≢true}
+use mathlib.Core.Bool.{Bool, true, false, true≢false}
 use Prim.Native.Nat.{ℕ, _<_}
 use native.Mathlib.Omega.{arith}
 use lib.Dec.{eqb, ltb}
 use borrow.Author.Tests.{eqb-true, eqb-false, eq-eqb, ltb-true, lt-ltb}
-use Rattle.laws.specs.Choice.{cases, and-left, and-right, and-both}
+use Rattle.laws.specs.Choice.{pick, cases, and-left, and-right, and-both}
 use Rattle.order.specs.Tests.{or-left, or-right, or-cases}
 use Rattle.order.specs.KeySets.{_∈_}
 use Rattle.nets.specs.Rules.{Rules, aims, isTake, isRead, isNewloc, Second, nothing, aTuple, aProcess, secondOf, isThere}
-use Rattle.nets.specs.Net.{Kind, free, live, past, tuple, consumed, isFree, isPast, isConsumed, Slot, Net, fresh, forgetAs, forget, madeKey, tookTuple, readTuple, madeLocality}
+use Rattle.nets.specs.Net.{Kind, kindNumber, isHeld, free, live, past, tuple, consumed, isFree, isPast, isConsumed, Slot, Net, fresh, forgetAs, forget, madeKey, tookTuple, readTuple, madeLocality}
 use Rattle.nets.specs.Rule.{met, product, Places, Rule}
 use Rattle.nets.specs.Accepted.{Formed, Agrees}
 
 -- ---- kinds
 
+abbrev kindOf : ℕ → Kind
+kindOf k = pick (eqb k 0) free (pick (eqb k 1) live (pick (eqb k 2) past (pick (eqb k 3) tuple consumed)))
+
+kind-again : (c : Kind) → kindOf (kindNumber c) ≡ c
+kind-again free = refl
+kind-again live = refl
+kind-again past = refl
+kind-again tuple = refl
+kind-again consumed = refl
+
+pub same-kind : (c d : Kind) → eqb (kindNumber c) (kindNumber d) ≡ true → c ≡ d
+same-kind c d h = sym (kind-again c) ∙ ap kindOf (eqb-true (kindNumber c) (kindNumber d) h) ∙ kind-again d
+
 pub past-kind : (c : Kind) → isPast c ≡ true → c ≡ past
-past-kind free h = absurd (false≢true h)
-past-kind live h = absurd (false≢true h)
-past-kind past h = refl
-past-kind tuple h = absurd (false≢true h)
-past-kind consumed h = absurd (false≢true h)
+past-kind c h = same-kind c past h
 
 pub live-not-past : (c : Kind) → (c ≡ live) ⊎ (c ≡ tuple) → isPast c ≡ false
 live-not-past c (inl p) = rw p
@@ -40,10 +49,16 @@ pub live-held : (c : Kind) → (c ≡ live) ⊎ (c ≡ tuple) → isFree c ≡ f
 live-held c (inl p) = rw p
 live-held c (inr p) = rw p
 
-pub past-held : (c : Kind) → isPast c ≡ true → not (isFree c) ≡ true
+pub past-held : (c : Kind) → isPast c ≡ true → isHeld c ≡ true
 past-held c h = rw (past-kind c h)
 
 module _ {R : Rules} where
+  pub kind-eq : {s t : Slot R} → s ≡ t → s .kind ≡ t .kind
+  kind-eq e = ap (λ (s : Slot R). s .kind) e
+
+  pub body-eq : {s t : Slot R} → s ≡ t → s .body ≡ t .body
+  body-eq e = ap (λ (s : Slot R). s .body) e
+
   -- ---- forgetting
 
   pub forget-again : (s : Slot R) → forget (forget s) ≡ forget s
@@ -129,7 +144,8 @@ module _ {R : Rules} where
       each tuple e h = subst (λ (d : Kind). Formed d s) (sym e) h
       each consumed e h = (refl, h .1)
 
-  pub same-slot : (s t : Slot R) → s .kind ≡ t .kind → s .body ≡ t .body → s .first ≡ t .first → s .second ≡ t .second → s .used ≡ t .used → s .place ≡ t .place → s ≡ t
+  pub same-slot : (s t : Slot R) → s .kind ≡ t .kind → s .body ≡ t .body → s .first ≡ t .first → s .second ≡ t .second
+      → s .used ≡ t .used → s .place ≡ t .place → s ≡ t
   same-slot s t p q a b c d = λ i. record { kind = p i; body = q i; first = a i; second = b i; used = c i; place = d i }
 
   -- ---- what an event's record says
@@ -246,27 +262,31 @@ module _ {R : Rules} where
       second p aProcess q z = the-process z q (rw (p, q))
 
   -- and each is live
-  pub made-live-kind : (e : ℕ) (s : Slot R) (t : R .Body) (k : ℕ) → Made e s t k → (product e s t k .kind ≡ live) ⊎ (product e s t k .kind ≡ tuple)
-  made-live-kind e s t k (continuation z q) = inl (ap (λ (s : Slot R). s .kind) q)
-  made-live-kind e s t k (the-tuple z c q) = inr (ap (λ (s : Slot R). s .kind) q)
-  made-live-kind e s t k (the-process z c q) = inl (ap (λ (s : Slot R). s .kind) q)
+  pub made-live-kind : (e : ℕ) (s : Slot R) (t : R .Body) (k : ℕ) → Made e s t k
+      → (product e s t k .kind ≡ live) ⊎ (product e s t k .kind ≡ tuple)
+  made-live-kind e s t k (continuation z q) = inl (kind-eq q)
+  made-live-kind e s t k (the-tuple z c q) = inr (kind-eq q)
+  made-live-kind e s t k (the-process z c q) = inl (kind-eq q)
 
   -- ---- agreement in another net
 
   -- a rule asks a net for the tuple met and for its target, and nothing else
-  pub rule-over : (n m : Net R) (s : Slot R) → met m s ≡ met n s → (aims (R .act (s .body)) ≡ true → R .target (s .body) ∈ m .present) → Rule n s → Rule m s
+  pub rule-over : (n m : Net R) (s : Slot R) → met m s ≡ met n s → (aims (R .act (s .body)) ≡ true → R .target (s .body) ∈ m .present)
+      → Rule n s → Rule m s
   rule-over n m s e t r =
       record {
         acting = r .acting;
         places = r .places;
         ready = r .ready;
         there = t;
-        meets = λ u. ap (λ (s : Slot R). s .kind) e ∙ r .meets u;
+        meets = λ u. kind-eq e ∙ r .meets u;
         here = λ u. ap (λ (s : Slot R). R .at (s .body)) e ∙ r .here u;
         fits = λ u. ap (λ (t : Slot R). R .fits (s .body) (t .body)) e ∙ r .fits u;
       }
 
-  pub agrees-over : (n m : Net R) (e : ℕ) (s : Slot R) → met m s ≡ met n s → (aims (R .act (s .body)) ≡ true → R .target (s .body) ∈ m .present) → ((k : ℕ) → madeKey k s ≡ true → forget (m .slot k) ≡ forget (n .slot k)) → Agrees n e s → Agrees m e s
+  pub agrees-over : (n m : Net R) (e : ℕ) (s : Slot R) → met m s ≡ met n s
+      → (aims (R .act (s .body)) ≡ true → R .target (s .body) ∈ m .present)
+      → ((k : ℕ) → madeKey k s ≡ true → forget (m .slot k) ≡ forget (n .slot k)) → Agrees n e s → Agrees m e s
   agrees-over n m e s q t f a =
       record {
         rule = rule-over n m s q t (a .rule);

@@ -1,8 +1,8 @@
 -- Rollback: the laws of undoing hold of accepted nets, so that any order of single backward steps is one rollback; and how many it undoes.
 --
--- In order: the laws (`undoing`, in the words of `order`); steps in a row, in those words and back (`steps-there`, `steps-back`); acceptance
--- along backward steps (`undoes-accepted`); demand 3 of an event (`AnyOrder`, `any-order`); a rollback keeps acceptance (`rollback-accepted`) and frees
--- what dependents made (`rollback-frees`);
+-- In order: a set whose members each have an own member of another (`count-inject`); the laws (`undoing`, in the words of `order`); steps
+-- in a row, in those words and back (`steps-there`, `steps-back`); acceptance along backward steps (`undoes-accepted`); demand 3 of an
+-- event (`AnyOrder`, `any-order`); a rollback keeps acceptance (`rollback-accepted`) and frees what dependents made (`rollback-frees`);
 -- some key is no event (`not-all-past`), each event makes a key that no other makes, so undone is below the number of keys
 -- (`undone-below`) and at most the number of made keys (`undone-made`).
 -- Assumes nothing.
@@ -31,7 +31,8 @@ use Rattle.nets.specs.Backward.{made-no-event, undo-accepted, undo-event
 -- ---- counting
 
 -- a set whose members each have an own member of another is not larger
-pub count-inject : (k n : ℕ) (S T : Set) (f : ℕ → ℕ) → ((x : ℕ) → x < k → x ∈ S → (f x < n) × (f x ∈ T)) → ((x y : ℕ) → x ∈ S → y ∈ S → f x ≡ f y → x ≡ y) → count k S ≤ count n T
+pub count-inject : (k n : ℕ) (S T : Set) (f : ℕ → ℕ) → ((x : ℕ) → x < k → x ∈ S → (f x < n) × (f x ∈ T))
+    → ((x y : ℕ) → x ∈ S → y ∈ S → f x ≡ f y → x ≡ y) → count k S ≤ count n T
 unfolding count
 count-inject zero n S T f there apart = zero-le
 count-inject (suc k) n S T f there apart =
@@ -103,7 +104,8 @@ module _ {R : Rules} where
   -- "Undo the steps that depend on it, itself included, by single backward steps, choosing any allowed one each time."
   pub record AnyOrder (n : Net R) (e : ℕ) : Type 0 where
     -- "This never sticks": whatever was undone, while a dependent is past, one of them may be undone
-    pub never-sticks : (ks : List ℕ) (m : Net R) → Undoes n ks m → (f : ℕ) → f ∈ dependents n e → f ∈ events m → (x : ℕ) × (x ∈ dependents n e) × Undoable m x
+    pub never-sticks : (ks : List ℕ) (m : Net R) → Undoes n ks m → (f : ℕ) → f ∈ dependents n e → f ∈ events m
+        → (x : ℕ) × (x ∈ dependents n e) × Undoable m x
     -- so it can be done
     pub possible : (ks : List ℕ) × (m : Net R) × UndoesAll n (dependents n e) ks m
     -- "always takes the same count"

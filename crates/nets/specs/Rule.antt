@@ -1,5 +1,5 @@
--- What a rule asks and what it makes: said once, for the step that is taken and for the event that must agree with it.
--- Document 01, "Forward rules".
+-- What a rule asks and what it makes: said once, for the step that is taken and for the event that must agree with it. Document 01,
+-- "Forward rules".
 --
 -- In order: the tuple met (`met`); the products (`besides`, `product`); which places a kind needs (`Places`); what a rule asks (`Rule`).
 -- Assumes nothing.

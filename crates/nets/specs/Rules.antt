@@ -1,8 +1,8 @@
 -- What nets must know of a script: what a record's contents say, what a rule makes, and the small laws that these obey. Which scripts there
 -- are, how a field is evaluated and a template matched is not said here: everything above is over any `Rules`.
 --
--- In order: `none`; the kinds of nodes (`Act`), their numbers and what each kind needs (`acts`, `aims`, `uses`, `secondOf`); `Rules`; what the
--- kinds have to do with each other (`take-uses`, `read-uses`, `take-not-read`, `newloc-alone`, `aims-stay`).
+-- In order: `none`; the kinds of nodes (`Act`), their numbers and what each kind needs (`acts`, `aims`, `uses`, `secondOf`); `Rules`; what
+-- the kinds have to do with each other (`take-uses`, `read-uses`, `take-not-read`, `newloc-alone`, `aims-stay`).
 -- Assumes nothing.
 use mathlib.Core.Path.{_≡_, refl}
 use mathlib.Core.Logic.{_⊎_}

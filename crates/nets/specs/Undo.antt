@@ -1,9 +1,8 @@
 -- Undoing: of a set of events at once, of one event, and of a list in turn. Document 01, "Backward steps and dependence".
 --
 -- In order: what a set of events made and took (`madeBy`, `takenBy`, `localityBy`); `undoSet`, in which freeing wins; `undo` of one event;
--- `rollback` and `undone`; when an event may be undone (`Undoable`), and backward steps as a relation of
--- nets (`Backward`); what a change of nets `touched`; single backward steps in a row (`Undoes`), and what
--- they touch together (`touchedBy`).
+-- `rollback` and `undone`; when an event may be undone (`Undoable`), and backward steps as a relation of nets (`Backward`); what a change
+-- of nets `touched`; single backward steps in a row (`Undoes`), and what they touch together (`touchedBy`).
 -- Assumes nothing.
 use mathlib.Core.Path.{_≡_}
 use mathlib.Core.Logic.{_⊎_}

@@ -1,10 +1,11 @@
 -- Undoing sets of events: what becomes of each slot, sets one after the other, and what is touched. Of any net, accepted or not, where not
 -- said otherwise.
 --
--- In order: what becomes of a slot (`Turn`, `turn`); events that are left keep their records (`kept`, `left-alone`), and records but for what
--- happened to them stay (`forget-kept`); undoing no event (`undo-none`); one set and then another are both together (`undo-union`) if the
--- first is `Whole`, as a closed set is (`closed-whole`); touched by no change (`touched-none`), by two changes (`touched-union`), and
--- touched said by what the set made (`touched-made`).
+-- In order: what undoing a set says (`made-freed`, `made-absent`, `tuple-again`, `event-again`); what becomes of a slot (`Turn`, `turn`);
+-- events that are left keep their records (`kept`, `left-alone`), and records but for what happened to them stay (`forget-kept`); undoing
+-- no event (`undo-none`); one set and then another are both together (`undo-union`) if the first is `Whole`, as a closed set is
+-- (`closed-whole`); touched by no change (`touched-none`), by two changes (`touched-union`), and touched said by what the set made
+-- (`touched-made`).
 -- Assumes nothing.
 use mathlib.Core.Path.{_≡_, refl, sym, _∙_, ap, ap₂, fun-ext}
 use mathlib.Core.Bool.{Bool, true, false, not, _&&_, _||_, and-true, and-false, or-false}
@@ -19,7 +20,7 @@ use Rattle.nets.specs.Rules.{Rules}
 use Rattle.nets.specs.Net.{made-key, live, tuple, consumed, isFree, isPast, isConsumed, Slot, Net, freeSlot, fresh, forget, events, held, madeKey, tookTuple, madeLocality, makes, makesLocality, depends}
 use Rattle.nets.specs.Undo.{madeBy, takenBy, localityBy, againBy, turned, undoSet, becameFree, touched}
 use Rattle.nets.specs.Accepted.{Accepted}
-use Rattle.nets.specs.Records.{past-kind, forget-again, forget-body, forget-free, forget-not-past, forget-past, forget-consumed, OfEvents, made-past, took-past, locality-past}
+use Rattle.nets.specs.Records.{kind-eq, body-eq, past-kind, forget-again, forget-body, forget-free, forget-not-past, forget-past, forget-consumed, OfEvents, made-past, took-past, locality-past}
 use Rattle.nets.specs.Events.{cause-depends, made-held}
 
 -- ---- tests
@@ -72,7 +73,8 @@ module _ {R : Rules} where
     again-forgets k b a = slot-is k ∙ ap₂ (λ (a b : Bool). turned a b (n .slot k)) b a
 
     -- "a consumed tuple is live again", unless it becomes free
-    pub tuple-again : (k : ℕ) → n .slot k .kind ≡ consumed → takenBy n S k ≡ true → madeBy n S k ≡ false → m .slot k ≡ fresh tuple (n .slot k .body)
+    pub tuple-again : (k : ℕ) → n .slot k .kind ≡ consumed → takenBy n S k ≡ true → madeBy n S k ≡ false
+        → m .slot k ≡ fresh tuple (n .slot k .body)
     tuple-again k c t b = again-forgets k b (tuple-is-again k c t) ∙ forget-consumed (n .slot k) c
 
     -- "and it is live as before", with the contents that it kept, unless it becomes free
@@ -96,18 +98,18 @@ module _ {R : Rules} where
     kept e p = each (turn e)
       where
         each : Turn e → m .slot e ≡ n .slot e
-        each (freed b q) = clash (events m e) p (ap (λ (s : Slot R). isPast (s .kind)) q)
-        each (again b a q) = clash (events m e) p (ap (λ (s : Slot R). isPast (s .kind)) q ∙ forget-not-past (n .slot e))
+        each (freed b q) = clash (events m e) p (ap isPast (kind-eq q))
+        each (again b a q) = clash (events m e) p (ap isPast (kind-eq q) ∙ forget-not-past (n .slot e))
         each (same b a q) = q
 
     pub kept-event : (e : ℕ) → e ∈ events m → e ∈ events n
-    kept-event e p = sym (ap (λ (s : Slot R). isPast (s .kind)) (kept e p)) ∙ p
+    kept-event e p = sym (ap isPast (kind-eq (kept e p))) ∙ p
 
-    -- an event that is not of S and that S did not make stays as it is
     event-not-again : (e : ℕ) → e ∈ events n → e ∉ S → againBy n S e ≡ false
     unfolding againBy
     event-not-again e p out = rw (past-kind (n .slot e .kind) p, out)
 
+    -- an event that is not of S and that S did not make stays as it is
     pub left-alone : (e : ℕ) → e ∈ events n → e ∉ S → madeBy n S e ≡ false → m .slot e ≡ n .slot e
     left-alone e p out b = each (turn e)
       where
@@ -127,12 +129,12 @@ module _ {R : Rules} where
 
     pub body-kept : (k : ℕ) → madeBy n S k ≡ false → m .slot k .body ≡ n .slot k .body
     body-kept k b =
-        sym (forget-body (m .slot k)) ∙ ap (λ (s : Slot R). s .body) (forget-kept k b) ∙ forget-body (n .slot k)
+        sym (forget-body (m .slot k)) ∙ body-eq (forget-kept k b) ∙ forget-body (n .slot k)
 
     -- it becomes free exactly by being made by S
     pub free-kept : (k : ℕ) → madeBy n S k ≡ false → isFree (m .slot k .kind) ≡ isFree (n .slot k .kind)
     free-kept k b =
-        sym (forget-free (m .slot k)) ∙ ap (λ (s : Slot R). isFree (s .kind)) (forget-kept k b) ∙ forget-free (n .slot k)
+        sym (forget-free (m .slot k)) ∙ ap isFree (kind-eq (forget-kept k b)) ∙ forget-free (n .slot k)
 
   -- ---- no event
 
@@ -164,7 +166,8 @@ module _ {R : Rules} where
   closed-whole n S c e f m h p = c e f (cause-depends n e f p (made-key h)) m
 
   -- undone for one reason and then for another; the second time the slot may be seen as it was before, where it is still so
-  turned-twice : (m₁ m₂ a₁ a₂ a : Bool) (s : Slot R) → (m₁ ≡ false → a₁ ≡ false → a₂ ≡ a) → turned (m₁ || m₂) (a₁ || a) s ≡ turned m₂ a₂ (turned m₁ a₁ s)
+  turned-twice : (m₁ m₂ a₁ a₂ a : Bool) (s : Slot R) → (m₁ ≡ false → a₁ ≡ false → a₂ ≡ a)
+      → turned (m₁ || m₂) (a₁ || a) s ≡ turned m₂ a₂ (turned m₁ a₁ s)
   turned-twice true true a₁ a₂ a s h = refl
   turned-twice true false a₁ true a s h = refl
   turned-twice true false a₁ false a s h = refl
@@ -184,7 +187,8 @@ module _ {R : Rules} where
         clash (S e) (whole g e (and-left (S g) _ h) (and-right (S g) _ h) p) out)
 
     -- what records of events of S or T say is what those of S say, or those of T after S is undone
-    said-by-both : (Q : Slot R → Bool) → OfEvents Q → any (R .keys) ((S ∪ T) ∩ (λ e. Q (n .slot e))) ≡ (any (R .keys) (S ∩ (λ e. Q (n .slot e))) || any (R .keys) (T ∩ (λ e. Q (undoSet n S .slot e))))
+    said-by-both : (Q : Slot R → Bool) → OfEvents Q
+        → any (R .keys) ((S ∪ T) ∩ (λ e. Q (n .slot e))) ≡ (any (R .keys) (S ∩ (λ e. Q (n .slot e))) || any (R .keys) (T ∩ (λ e. Q (undoSet n S .slot e))))
     said-by-both Q of = agree (any N both) (any N first || any N second) there back
       where
         N : ℕ
@@ -280,7 +284,9 @@ module _ {R : Rules} where
       never false a = refl
 
   -- over a net between: what is free there stays free, and what is held there was held before with the same contents
-  pub touched-over : (n m o : Net R) → ((k : ℕ) → isFree (m .slot k .kind) ≡ true → isFree (o .slot k .kind) ≡ true) → ((k : ℕ) → isFree (m .slot k .kind) ≡ false → (isFree (n .slot k .kind) ≡ false) × (m .slot k .body ≡ n .slot k .body)) → touched n o ≡ touched n m ∪ touched m o
+  pub touched-over : (n m o : Net R) → ((k : ℕ) → isFree (m .slot k .kind) ≡ true → isFree (o .slot k .kind) ≡ true)
+      → ((k : ℕ) → isFree (m .slot k .kind) ≡ false → (isFree (n .slot k .kind) ≡ false) × (m .slot k .body ≡ n .slot k .body))
+      → touched n o ≡ touched n m ∪ touched m o
   unfolding touched
   touched-over n m o stays was =
       fun-ext
@@ -296,21 +302,24 @@ module _ {R : Rules} where
   module _ (n : Net R) (S : Set) where
     stays-free : (k : ℕ) → isFree (n .slot k .kind) ≡ true → isFree (undoSet n S .slot k .kind) ≡ true
     stays-free k f =
-        cases (madeBy n S k) (λ b. ap (λ (s : Slot R). isFree (s .kind)) (made-freed n S k b)) (λ b. free-kept n S k b ∙ f)
+        cases (madeBy n S k) (λ b. ap isFree (kind-eq (made-freed n S k b))) (λ b. free-kept n S k b ∙ f)
 
-    was-held : (k : ℕ) → isFree (undoSet n S .slot k .kind) ≡ false → (isFree (n .slot k .kind) ≡ false) × (undoSet n S .slot k .body ≡ n .slot k .body)
+    was-held : (k : ℕ) → isFree (undoSet n S .slot k .kind) ≡ false
+        → (isFree (n .slot k .kind) ≡ false) × (undoSet n S .slot k .body ≡ n .slot k .body)
     was-held k f =
         cases (madeBy n S k)
-        (λ b. clash (isFree (undoSet n S .slot k .kind)) (ap (λ (s : Slot R). isFree (s .kind)) (made-freed n S k b)) f)
+        (λ b. clash (isFree (undoSet n S .slot k .kind)) (ap isFree (kind-eq (made-freed n S k b))) f)
         (λ b. (sym (free-kept n S k b) ∙ f, body-kept n S k b))
 
-  pub touched-union : (n : Net R) (S T : Set) → Whole n S → touched n (undoSet n (S ∪ T)) ≡ touched n (undoSet n S) ∪ touched (undoSet n S) (undoSet (undoSet n S) T)
+  pub touched-union : (n : Net R) (S T : Set) → Whole n S
+      → touched n (undoSet n (S ∪ T)) ≡ touched n (undoSet n S) ∪ touched (undoSet n S) (undoSet (undoSet n S) T)
   touched-union n S T whole =
       ap (touched n) (undo-union n S T whole) ∙
       touched-over n (undoSet n S) (undoSet (undoSet n S) T) (stays-free (undoSet n S) T) (was-held n S)
 
   -- in an accepted net: the localities of what the set made
-  pub touched-made : (n : Net R) → Accepted n → (S : Set) (l : ℕ) → touched n (undoSet n S) l ≡ any (R .keys) (λ k. madeBy n S k && eqb (R .at (n .slot k .body)) l)
+  pub touched-made : (n : Net R) → Accepted n → (S : Set) (l : ℕ)
+      → touched n (undoSet n S) l ≡ any (R .keys) (λ k. madeBy n S k && eqb (R .at (n .slot k .body)) l)
   unfolding touched madeBy
   touched-made n ok S l =
       any-ext (R .keys) (λ k. becameFree n (undoSet n S) k && eqb (R .at (n .slot k .body)) l) (λ k. madeBy n S k && eqb (R .at (n .slot k .body)) l)
@@ -326,4 +335,4 @@ module _ {R : Rules} where
       back : (k : ℕ) → madeBy n S k ≡ true → becameFree n (undoSet n S) k ≡ true
       back k b =
           let (e, l, h) = any-some (R .keys) (S ∩ (λ e. makes n e k)) b in
-          and-both (held n k) _ (made-held n ok e k (and-right (S e) _ h)) (ap (λ (s : Slot R). isFree (s .kind)) (made-freed n S k b))
+          and-both (held n k) _ (made-held n ok e k (and-right (S e) _ h)) (ap isFree (kind-eq (made-freed n S k b)))
