@@ -10,19 +10,13 @@ use native.Mathlib.Decide.{decLt}
 use lib.Dec.{eqb}
 use lib.ListN.{length, getD, List·getD-eq-default}
 use borrow.Author.Tests.{eqb-true}
-use Rattle.laws.specs.Choice.{cases, clash, and-left, and-right}
+use Rattle.laws.specs.Choice.{cases, clash, and-left, and-right, or-cases, _⇒_, told}
 use Rattle.laws.specs.Checks.{all, all-at}
-use Rattle.order.specs.Tests.{or-cases}
 use Rattle.order.specs.KeySets.{Set, _∈_, members}
 use Rattle.order.specs.Graphs.{Graph, Reach, Over, Closed}
 use Rattle.order.specs.Dependents as D
 use Rattle.nets.specs.Net.{Slot, Net, freeSlot, isPast, events, madeKey, readTuple, makes, reads, takes, depends, dependents}
-use Rattle.requests.specs.Checks.{_⇒_}
 use Rattle.cases.specs.Script.{T}
-
-imp : (a b : Bool) → (a ⇒ b) ≡ true → a ≡ true → b ≡ true
-imp true b h p = h
-imp false b h p = clash false p refl
 
 -- it holds of each key of the list
 abbrev pub Each : (ℕ → Type 0) → List ℕ → Type 0
@@ -68,5 +62,5 @@ module _ (present : Set) (slots : List (Slot T)) (few : length slots ≤ 64) whe
   pub dependents-are : (e : ℕ) (xs : List ℕ) → members xs e ≡ true → Each (λ x. kept xs x ≡ true) xs → Each (Reach (depends n) e) xs → members xs ≡ dependents n e
   dependents-are e xs first closed reached =
       D.dependents-is 64 (depends n) over e (members xs) first
-      (λ x f d m. imp (depends n x f) (members xs f) (all-at 64 (λ f. depends n x f ⇒ members xs f) (each-at (λ x. kept xs x ≡ true) xs closed x m) f (over x f d .1)) d)
+      (λ x f d m. told (depends n x f) (members xs f) (all-at 64 (λ f. depends n x f ⇒ members xs f) (each-at (λ x. kept xs x ≡ true) xs closed x m) f (over x f d .1)) d)
       (each-at (Reach (depends n) e) xs reached)

@@ -23,14 +23,14 @@ shaped-script s e h =
     record {
       nodes = e;
       at =
-        λ i l.
-        let a = actionAt s i in
-        let w = all-at nodeCount (λ i. isWhole (actionAt s i)) h i l in
-        record {
-          fields = eqb-true (length (a .fields)) 4 (and-left (eqb (length (a .fields)) 4) _ w);
-          numbers =
-            λ j q.
-            ltb-true (fieldAt a j .number) 4294967296
-            (all-at 4 (λ j. ltb (fieldAt a j .number) 4294967296) (and-right (eqb (length (a .fields)) 4) _ w) j q)
-        }
+          λ i l.
+          let a = actionAt s i in
+          let w = all-at nodeCount (λ i. isWhole (actionAt s i)) h i l in
+          record {
+            fields = eqb-true (length (a .fields)) 4 (and-left (eqb (length (a .fields)) 4) _ w);
+            numbers =
+                λ j q.
+                ltb-true (fieldAt a j .number) 4294967296
+                (all-at 4 (λ j. ltb (fieldAt a j .number) 4294967296) (and-right (eqb (length (a .fields)) 4) _ w) j q);
+          };
     }

@@ -10,9 +10,8 @@ use native.Mathlib.Omega.{arith}
 use native.Mathlib.Decide.{decLt}
 use lib.Dec.{eqb, ltb}
 use borrow.Author.Tests.{eqb-true, eq-eqb, not-true, eqb-false, ne-eqb, ltb-true, lt-ltb}
-use Rattle.laws.specs.Choice.{cases, clash, and-left, and-right, and-both, sameb, sameb-eq, pick}
+use Rattle.laws.specs.Choice.{cases, clash, and-left, and-right, and-both, sameb, sameb-eq, pick, or-left, or-right, or-cases, fails, _⇒_, told, tells}
 use Rattle.laws.specs.Checks.{all, all-of, all-at}
-use Rattle.order.specs.Tests.{or-left, or-right, or-cases, fails}
 use Rattle.order.specs.KeySets.{_∈_, _∉_, any, any-of, any-some}
 use Rattle.order.specs.Peeling.{acyclic-iff}
 use Rattle.nets.specs.Rules.{Rules, none, acts, aims, uses, isNewloc, secondOf, isThere}
@@ -21,17 +20,9 @@ use Rattle.nets.specs.Rule.{met, product, Places, Rule}
 use Rattle.nets.specs.Accepted.{Bounded, Formed, Agrees, Root, Accepted}
 use Rattle.nets.specs.Records.{same-kind, OfEvents, same-slot, made-past, made-below, made-cases, took-past, took-is, locality-past, locality-is}
 use Rattle.nets.specs.Events.{bounded-held, bounded-event, bounded-among}
-use Rattle.nets.specs.Accepting.{_⇒_, ruled, saidOnce, onceEach, tuplesRight, localitiesRight, rootsRight, sameSlot, formedAs, formed, agreed, accepted, placed, fitting}
+use Rattle.nets.specs.Accepting.{ruled, saidOnce, onceEach, tuplesRight, localitiesRight, rootsRight, sameSlot, formedAs, formed, agreed, accepted, placed, fitting}
 
 -- ---- tests together
-
-when-of : (a b : Bool) → (a ≡ true → b ≡ true) → (a ⇒ b) ≡ true
-when-of true b h = h refl
-when-of false b h = refl
-
-when-at : (a b : Bool) → (a ⇒ b) ≡ true → a ≡ true → b ≡ true
-when-at true b h p = h
-when-at false b h p = absurd (false≢true p)
 
 and-three : {a b c : Bool} → a ≡ true → b ≡ true → c ≡ true → (a && (b && c)) ≡ true
 and-three {a} {b} {c} p q r = and-both a _ p (and-both b _ q r)
@@ -85,13 +76,13 @@ module _ {R : Rules} where
       let h₂ = and-right (placed s) _ h₁ in
       let h₃ = and-right (R .ready (s .body)) _ h₂ in
       let aimed = aims (R .act (s .body)) ⇒ n .present (R .target (s .body)) in
-      let tuple-fits : uses (R .act (s .body)) ≡ true → fitting n s ≡ true = when-at (uses (R .act (s .body))) _ (and-right aimed _ h₃) in
+      let tuple-fits : uses (R .act (s .body)) ≡ true → fitting n s ≡ true = told (uses (R .act (s .body))) _ (and-right aimed _ h₃) in
       let at-target : uses (R .act (s .body)) ≡ true → (eqb (R .at (met n s .body)) (R .target (s .body)) && R .fits (s .body) (met n s .body)) ≡ true = λ u. and-right (isLiveTuple (met n s .kind)) _ (tuple-fits u) in
       record {
         acting = and-left (acts (R .act (s .body))) _ h;
         places = placed-says s (and-left (placed s) _ h₁);
         ready = and-left (R .ready (s .body)) _ h₂;
-        there = when-at (aims (R .act (s .body))) _ (and-left aimed _ h₃);
+        there = told (aims (R .act (s .body))) _ (and-left aimed _ h₃);
         meets = λ u. same-kind (met n s .kind) tuple (and-left (isLiveTuple (met n s .kind)) _ (tuple-fits u));
         here = λ u. eqb-true (R .at (met n s .body)) (R .target (s .body)) (and-left (eqb (R .at (met n s .body)) (R .target (s .body))) _ (at-target u));
         fits = λ u. and-right (eqb (R .at (met n s .body)) (R .target (s .body))) _ (at-target u);
@@ -101,8 +92,8 @@ module _ {R : Rules} where
   unfolding ruled fitting
   ruled-holds n s r =
       and-three (r .acting) (placed-holds s (r .places))
-      (and-three (r .ready) (when-of (aims (R .act (s .body))) _ (r .there))
-      (when-of (uses (R .act (s .body))) _
+      (and-three (r .ready) (tells (aims (R .act (s .body))) _ (r .there))
+      (tells (uses (R .act (s .body))) _
       (λ u.
       and-three (ap isLiveTuple (r .meets u)) (eq-eqb (R .at (met n s .body)) (R .target (s .body)) (r .here u)) (r .fits u))))
 
@@ -158,7 +149,7 @@ module _ {R : Rules} (same : R .Body → R .Body → Bool) (same-iff : (a b : R 
         rule = ruled-says n (n .slot e) (and-left (ruled n (n .slot e)) _ h);
         made = λ k m.
             same-says (forget (n .slot k)) (product e (n .slot e) (met n (n .slot e) .body) k)
-            (when-at (makes n e k) _
+            (told (makes n e k) _
             (all-at (R .keys) (λ k. makes n e k ⇒ sameSlot same (forget (n .slot k)) (product e (n .slot e) (met n (n .slot e) .body) k))
             (and-right (ruled n (n .slot e)) _ h) k (made-below k (n .slot e) m)) m);
       }
@@ -167,7 +158,7 @@ module _ {R : Rules} (same : R .Body → R .Body → Bool) (same-iff : (a b : R 
   unfolding agreed
   agreed-holds n e a =
       and-both (ruled n (n .slot e)) _ (ruled-holds n (n .slot e) (a .rule))
-      (all-of (R .keys) _ (λ k l. when-of (makes n e k) _ (λ m. same-holds _ _ (a .made k m))))
+      (all-of (R .keys) _ (λ k l. tells (makes n e k) _ (λ m. same-holds _ _ (a .made k m))))
 
 -- ---- the net as a whole
 
@@ -180,25 +171,25 @@ module _ {R : Rules} where
         let at-e : Q (place (n .slot e)) (n .slot e) ≡ true = ap (λ (j : ℕ). Q j (n .slot e)) z ∙ p in
         let at-f : Q (place (n .slot e)) (n .slot f) ≡ true = ap (λ (j : ℕ). Q j (n .slot f)) z ∙ q in
         let all-f =
-        when-at (Q (place (n .slot e)) (n .slot e)) _
+        told (Q (place (n .slot e)) (n .slot e)) _
         (all-at (R .keys) (λ e. Q (place (n .slot e)) (n .slot e) ⇒ all (R .keys) (λ f. Q (place (n .slot e)) (n .slot f) ⇒ eqb e f)) h e
         (bounded-event n bound e (of k (n .slot e) p))) at-e in
         eqb-true e f
-        (when-at (Q (place (n .slot e)) (n .slot f)) _
+        (told (Q (place (n .slot e)) (n .slot f)) _
         (all-at (R .keys) (λ f. Q (place (n .slot e)) (n .slot f) ⇒ eqb e f) all-f f (bounded-event n bound f (of k (n .slot f) q))) at-f)
 
     once-holds : (Q : ℕ → Slot R → Bool) (place : Slot R → ℕ) → ((e f k : ℕ) → Q k (n .slot e) ≡ true → Q k (n .slot f) ≡ true → e ≡ f)
         → saidOnce Q place n ≡ true
     unfolding saidOnce
     once-holds Q place h =
-        all-of (R .keys) _ (λ e l. when-of (Q (place (n .slot e)) (n .slot e)) _ (λ p.
-        all-of (R .keys) _ (λ f b. when-of (Q (place (n .slot e)) (n .slot f)) _ (λ q. eq-eqb e f (h e f (place (n .slot e)) p q)))))
+        all-of (R .keys) _ (λ e l. tells (Q (place (n .slot e)) (n .slot e)) _ (λ p.
+        all-of (R .keys) _ (λ f b. tells (Q (place (n .slot e)) (n .slot f)) _ (λ q. eq-eqb e f (h e f (place (n .slot e)) p q)))))
 
     roots-says : rootsRight n ≡ true → (k : ℕ) → k ∈ held n → k ∉ isMade n → Root n (n .slot k)
     unfolding rootsRight
     roots-says h k p m =
         let either =
-        when-at (held n k) _
+        told (held n k) _
         (all-at (R .keys) (λ k. held n k ⇒ (isMade n k || (R .rooted (n .slot k .body) && n .present (R .at (n .slot k .body))))) h k (bounded-held n bound k p)) p in
         or-cases (isMade n k) _ either (λ q. clash (isMade n k) q m)
         (λ q.
@@ -210,7 +201,7 @@ module _ {R : Rules} where
     roots-holds : ((k : ℕ) → k ∈ held n → k ∉ isMade n → Root n (n .slot k)) → rootsRight n ≡ true
     unfolding rootsRight
     roots-holds h =
-        all-of (R .keys) _ (λ k l. when-of (held n k) _ (λ p.
+        all-of (R .keys) _ (λ k l. tells (held n k) _ (λ p.
         cases (isMade n k) (λ m. or-left (isMade n k) _ m)
         (λ m. or-right (isMade n k) _ (and-both (R .rooted (n .slot k .body)) _ (h k p m .rooted) (h k p m .lives)))))
 
@@ -219,13 +210,13 @@ module _ {R : Rules} where
     unfolding localitiesRight
     localities-says L few h l m =
         sameb-eq (n .present l) (isMadeLocality n l)
-        (when-at (R .makeable l) _
+        (told (R .makeable l) _
         (all-at L (λ l. R .makeable l ⇒ sameb (n .present l) (isMadeLocality n l)) h l (few l m)) m)
 
     localities-holds : (L : ℕ) → ((l : ℕ) → l ∈ R .makeable → n .present l ≡ isMadeLocality n l) → localitiesRight L n ≡ true
     unfolding localitiesRight
     localities-holds L h =
-        all-of L _ (λ l b. when-of (R .makeable l) _ (λ m.
+        all-of L _ (λ l b. tells (R .makeable l) _ (λ m.
         ap (λ (a : Bool). sameb a (isMadeLocality n l)) (h l m) ∙ same-test (isMadeLocality n l)))
       where
         same-test : (a : Bool) → sameb a a ≡ true
@@ -237,7 +228,7 @@ module _ {R : Rules} where
     consumed-says h k c =
         let all-k = and-left (all (R .keys) (λ k. isConsumed (n .slot k .kind) ⇒ any (R .keys) (λ f. takes n f k))) _ h in
         let some =
-        when-at (isConsumed (n .slot k .kind)) _
+        told (isConsumed (n .slot k .kind)) _
         (all-at (R .keys) (λ k. isConsumed (n .slot k .kind) ⇒ any (R .keys) (λ f. takes n f k)) all-k k (bounded-held n bound k (ap isHeld c))) (ap isConsumed c) in
         let (f, l, t) = any-some (R .keys) (λ f. takes n f k) some in
         (f, t)
@@ -250,7 +241,7 @@ module _ {R : Rules} where
         let z = took-is k (n .slot f) t in
         let all-f = and-right (all (R .keys) (λ k. isConsumed (n .slot k .kind) ⇒ any (R .keys) (λ f. takes n f k))) _ h in
         let one =
-        when-at (takes n f (n .slot f .used)) _
+        told (takes n f (n .slot f .used)) _
         (all-at (R .keys) (λ f. takes n f (n .slot f .used) ⇒ not (isLiveTuple (n .slot (n .slot f .used) .kind))) all-f f (bounded-event n bound f (took-past k (n .slot f) t)))
         (ap (takes n f) z ∙ t) in
         clash (isLiveTuple (n .slot k .kind)) (ap isLiveTuple c)
@@ -261,10 +252,10 @@ module _ {R : Rules} where
     unfolding tuplesRight
     tuples-holds used unused =
         and-both (all (R .keys) (λ k. isConsumed (n .slot k .kind) ⇒ any (R .keys) (λ f. takes n f k))) _
-        (all-of (R .keys) _ (λ k l. when-of (isConsumed (n .slot k .kind)) _ (λ c.
+        (all-of (R .keys) _ (λ k l. tells (isConsumed (n .slot k .kind)) _ (λ c.
         let (f, t) = used k (same-kind (n .slot k .kind) consumed (consumed-kind (n .slot k .kind) c)) in
         any-of (R .keys) (λ f. takes n f k) f (bounded-event n bound f (took-past k (n .slot f) t)) t)))
-        (all-of (R .keys) _ (λ f l. when-of (takes n f (n .slot f .used)) _ (λ t.
+        (all-of (R .keys) _ (λ f l. tells (takes n f (n .slot f .used)) _ (λ t.
         ap not
         (fails (isLiveTuple (n .slot (n .slot f .used) .kind))
         (λ c. clash (takes n f (n .slot f .used)) t (unused f (n .slot f .used) (same-kind (n .slot (n .slot f .used) .kind) tuple c)))))))
@@ -301,7 +292,7 @@ module _ {R : Rules} (same : R .Body → R .Body → Bool) (same-iff : (a b : R 
               (λ l. free-formed k (bound k (omega arith)));
           agrees = λ e p.
               agreed-says same same-iff n e
-              (when-at (events n e) _ (all-at (R .keys) (λ e. events n e ⇒ agreed same n e) (and-left agree _ h₁) e (bounded-event n bound e p)) p);
+              (told (events n e) _ (all-at (R .keys) (λ e. events n e ⇒ agreed same n e) (and-left agree _ h₁) e (bounded-event n bound e p)) p);
           key-once = λ e f k p q.
               ⊎-elim (once-says n bound madeKey made-past (λ s. s .first) (and-left (saidOnce madeKey (λ s. s .first) n) _ once) e f k p q)
               (once-says n bound madeKey made-past (λ s. s .second) (and-left (saidOnce madeKey (λ s. s .second) n) _ once₁) e f k p q)
@@ -322,7 +313,7 @@ module _ {R : Rules} (same : R .Body → R .Body → Bool) (same-iff : (a b : R 
     unfolding accepted onceEach formed
     holds ok =
         and-three (all-of (R .keys) _ (λ k l. formed-holds same same-iff (n .slot k .kind) (n .slot k) (ok .formed k)))
-        (all-of (R .keys) _ (λ e l. when-of (events n e) _ (λ p. agreed-holds same same-iff n e (ok .agrees e p))))
+        (all-of (R .keys) _ (λ e l. tells (events n e) _ (λ p. agreed-holds same same-iff n e (ok .agrees e p))))
         (and-three
         (and-three (once-holds n bound madeKey (λ s. s .first) (ok .key-once)) (once-holds n bound madeKey (λ s. s .second) (ok .key-once))
         (and-both (saidOnce madeLocality (λ s. s .place) n) _ (once-holds n bound madeLocality (λ s. s .place) (ok .locality-once))

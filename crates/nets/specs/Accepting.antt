@@ -1,26 +1,20 @@
 -- Which nets are accepted, as a test that computes. Nothing here must be believed: `Accepted` is the statement, and `AcceptedTest` proves
 -- the test true exactly when it holds. It needs a test of equal contents (`same`), and a number L above all localities that need a maker.
 --
--- In order: `_⇒_`; an event's places and rule (`placed`, `fitting`, `ruled`); said by one event alone (`saidOnce`, `onceEach`); tuples,
+-- In order: an event's places and rule (`placed`, `fitting`, `ruled`); said by one event alone (`saidOnce`, `onceEach`); tuples,
 -- localities and roots as they must be (`tuplesRight`, `localitiesRight`, `rootsRight`); records that are the same (`sameSlot`); the form
 -- of a slot (`formed`); an event and what it made (`agreed`); `accepted`.
 -- Assumes nothing.
 use mathlib.Core.Bool.{Bool, true, false, not, _&&_, _||_}
 use Prim.Native.Nat.{ℕ}
 use lib.Dec.{eqb, ltb}
-use Rattle.laws.specs.Choice.{pick, sameb}
+use Rattle.laws.specs.Choice.{pick, sameb, _⇒_}
 use Rattle.laws.specs.Checks.{all}
 use Rattle.order.specs.KeySets.{any}
 use Rattle.order.specs.Peeling.{acyclic}
 use Rattle.nets.specs.Rules.{Rules, none, acts, aims, uses, isNewloc, secondOf, isThere}
 use Rattle.nets.specs.Net.{isLiveTuple, kindNumber, Kind, free, live, past, tuple, consumed, Net, events, makes, isConsumed, Slot, freeSlot, fresh, forget, held, madeKey, tookTuple, madeLocality, takes, isMade, isMadeLocality, depends}
 use Rattle.nets.specs.Rule.{met, product}
-
--- the second where the first holds
-infixr 25 _⇒_
-abbrev pub _⇒_ : Bool → Bool → Bool
-true ⇒ b = b
-false ⇒ b = true
 
 module _ {R : Rules} where
   -- ---- an event and its rule

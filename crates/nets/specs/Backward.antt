@@ -9,8 +9,7 @@ use mathlib.Core.Bool.{Bool, true, false, not, _&&_, true≢false}
 use Prim.Native.Nat.{ℕ, _≤_, _<_}
 use lib.Dec.{eqb}
 use borrow.Author.Tests.{eqb-true, eqb-false, ne-eqb, not-true}
-use Rattle.laws.specs.Choice.{clash, and-left, and-right, and-both}
-use Rattle.order.specs.Tests.{or-left, or-right, or-cases, fails, agree}
+use Rattle.laws.specs.Choice.{clash, and-left, and-right, and-both, or-left, or-right, or-cases, fails, agree}
 use Rattle.order.specs.KeySets.{_∈_, _∉_, _∖_, only, only-self, minus-in, minus-out, any-of, any-some, any-only}
 use Rattle.order.specs.Graphs.{acyclic-fewer, last-reach}
 use Rattle.nets.specs.Rules.{Rules, aims}

@@ -11,8 +11,7 @@ use mathlib.Core.Bool.{true, false, not}
 use Prim.Native.Nat.{ℕ, _<_}
 use native.Mathlib.Omega.{arith}
 use native.Mathlib.Decide.{decLt}
-use Rattle.laws.specs.Choice.{cases, clash, and-left, and-right, and-both}
-use Rattle.order.specs.Tests.{or-left, or-right, or-cases, fails}
+use Rattle.laws.specs.Choice.{cases, clash, and-left, and-right, and-both, or-left, or-right, or-cases, fails}
 use Rattle.order.specs.KeySets.{_∈_}
 use Rattle.order.specs.Graphs.{Among, among-over, Over, Last}
 use Rattle.nets.specs.Rules.{Rules, none, uses, isTake, isRead, take-uses, read-uses}

@@ -12,10 +12,9 @@ use Prim.Native.Nat.{ℕ, zero, suc, _≤_}
 use native.Mathlib.Omega.{arith}
 use lib.Dec.{eqb}
 use borrow.Author.Tests.{eqb-true, ne-eqb}
-use Rattle.laws.specs.Choice.{pick, clash}
+use Rattle.laws.specs.Choice.{pick, clash, fails}
 use Rattle.laws.specs.Checks.{all}
 use Rattle.order.specs.KeySets.{any, any-not, count}
-use Rattle.order.specs.Tests.{fails}
 use Rattle.order.specs.Dependents as D
 use Rattle.order.specs.Peeling.{last, peel, acyclic}
 use Rattle.nets.specs.Rules.{Rules, none, Act, number, nil, out, take}

@@ -9,8 +9,7 @@ use mathlib.Core.Bool.{Bool, true, false, not, _&&_, _||_, and-true, and-false, 
 use Prim.Native.Nat.{ℕ}
 use lib.Dec.{eqb}
 use borrow.Author.Tests.{eqb-true, eqb-false}
-use Rattle.laws.specs.Choice.{cases, clash}
-use Rattle.order.specs.Tests.{or-right, or-cases, fails}
+use Rattle.laws.specs.Choice.{cases, clash, or-right, or-cases, fails}
 use Rattle.order.specs.KeySets.{_∈_, _∉_, only, any-of}
 use Rattle.nets.specs.Rules.{Rules, uses, isTake, isRead, isNewloc, aims-stay}
 use Rattle.nets.specs.Net.{isHeld, Kind, live, tuple, consumed, Slot, Net, freeSlot, fresh, forget, held, madeKey, tookTuple, madeLocality, makes, takes, makesLocality}

@@ -12,8 +12,7 @@ use Prim.Native.Nat.{ℕ, _≤_, _<_}
 use native.Mathlib.Omega.{arith}
 use lib.Dec.{eqb}
 use borrow.Author.Tests.{eqb-true, eqb-false, eq-eqb, not-true}
-use Rattle.laws.specs.Choice.{cases, clash, and-left, and-right}
-use Rattle.order.specs.Tests.{or-left, or-right, or-cases, fails, agree}
+use Rattle.laws.specs.Choice.{cases, clash, and-left, and-right, or-left, or-right, or-cases, fails, agree}
 use Rattle.order.specs.KeySets.{_∈_, _∉_, empty, any-of, any-some, any-not}
 use Rattle.order.specs.Graphs.{acyclic-more}
 use Rattle.nets.specs.Rules.{Rules, none, uses, take-uses, read-uses, take-not-read}

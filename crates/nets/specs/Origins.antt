@@ -11,8 +11,7 @@ use Prim.Native.Nat.{ℕ}
 use native.Mathlib.Omega.{arith}
 use lib.Dec.{eqb}
 use borrow.Author.Tests.{eqb-true, eq-eqb}
-use Rattle.laws.specs.Choice.{cases, clash}
-use Rattle.order.specs.Tests.{or-left, or-right, or-cases, fails}
+use Rattle.laws.specs.Choice.{cases, clash, or-left, or-right, or-cases, fails}
 use Rattle.order.specs.KeySets.{_∈_, any-of, any-some}
 use Rattle.order.specs.Graphs.{Reach, here, reach-more, induction, last-reach, founded-reach, among-founded}
 use Rattle.nets.specs.Rules.{Rules, uses, aims, isNewloc, isSplit, newloc-alone}

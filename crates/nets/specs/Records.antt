@@ -11,8 +11,7 @@ use Prim.Native.Nat.{ℕ, _<_}
 use native.Mathlib.Omega.{arith}
 use lib.Dec.{eqb, ltb}
 use borrow.Author.Tests.{eqb-true, eqb-false, eq-eqb, ltb-true, lt-ltb}
-use Rattle.laws.specs.Choice.{pick, cases, and-left, and-right, and-both}
-use Rattle.order.specs.Tests.{or-left, or-right, or-cases}
+use Rattle.laws.specs.Choice.{pick, cases, and-left, and-right, and-both, or-left, or-right, or-cases}
 use Rattle.order.specs.KeySets.{_∈_}
 use Rattle.nets.specs.Rules.{Rules, aims, isTake, isRead, isNewloc, Second, nothing, aTuple, aProcess, secondOf, isThere}
 use Rattle.nets.specs.Net.{Kind, kindNumber, isHeld, free, live, past, tuple, consumed, isFree, isPast, isConsumed, Slot, Net, fresh, forgetAs, forget, madeKey, tookTuple, readTuple, madeLocality}

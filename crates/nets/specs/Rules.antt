@@ -10,7 +10,7 @@ use mathlib.Core.Bool.{Bool, true, false, _&&_, _||_, false≢true}
 use Prim.Native.Nat.{ℕ, _≤_, _<_}
 use lib.Dec.{eqb, ltb}
 use Rattle.order.specs.KeySets.{Set}
-use Rattle.order.specs.Tests.{or-left, or-right}
+use Rattle.laws.specs.Choice.{or-left, or-right}
 
 -- "255 means 'none' where said."
 abbrev pub none : ℕ

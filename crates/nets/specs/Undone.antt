@@ -12,8 +12,7 @@ use mathlib.Core.Bool.{Bool, true, false, not, _&&_, _||_, and-true, and-false, 
 use Prim.Native.Nat.{ℕ, _<_}
 use lib.Dec.{eqb}
 use borrow.Author.Tests.{not-true}
-use Rattle.laws.specs.Choice.{pick, cases, clash, and-left, and-right, and-both}
-use Rattle.order.specs.Tests.{or-left, or-right, or-cases, fails, agree}
+use Rattle.laws.specs.Choice.{pick, cases, clash, and-left, and-right, and-both, or-left, or-right, or-cases, fails, agree}
 use Rattle.order.specs.KeySets.{Set, _∈_, _∉_, _∪_, _∩_, empty, any, any-of, any-some, any-not, any-ext, any-union, any-empty}
 use Rattle.order.specs.Graphs.{Closed}
 use Rattle.nets.specs.Rules.{Rules}

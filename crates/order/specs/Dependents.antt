@@ -11,8 +11,7 @@ use mathlib.Core.Bool.{true, _&&_, _||_}
 use Prim.Native.Nat.{ℕ, zero, suc, _≤_, _<_, zero-le}
 use native.Mathlib.Omega.{arith}
 use borrow.Author.Tests.{eqb-true}
-use Rattle.laws.specs.Choice.{cases, clash, and-left, and-right, and-both}
-use Rattle.order.specs.Tests.{or-left, or-right, or-cases}
+use Rattle.laws.specs.Choice.{cases, clash, and-left, and-right, and-both, or-left, or-right, or-cases}
 use Rattle.order.specs.KeySets.{Set, _∈_, _⊆_, only, only-self, _∖_, in-minus, minus-in, minus-out, same-set}
 use Rattle.order.specs.KeySets.{any, any-of, any-some, search, count, count-le, count-strict}
 use Rattle.order.specs.Graphs.{Graph, Reach, here, reach-trans, reach-more, Over, Closed, closed-reach}

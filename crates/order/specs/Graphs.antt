@@ -13,8 +13,7 @@ use Prim.Native.Nat.{ℕ, zero, suc, _<_}
 use native.Mathlib.Omega.{arith}
 use lib.Dec.{eqb}
 use borrow.Author.Tests.{eqb-true}
-use Rattle.laws.specs.Choice.{cases, clash, and-left, and-right, and-both}
-use Rattle.order.specs.Tests.{fails}
+use Rattle.laws.specs.Choice.{cases, clash, and-left, and-right, and-both, fails}
 use Rattle.order.specs.KeySets.{Set, _∈_, _∉_, only, _∩_, _∖_, in-minus, Below, search, count, count-le, count-minus}
 
 abbrev pub Graph : Type 0

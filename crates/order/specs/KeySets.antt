@@ -7,7 +7,7 @@
 -- `count`: one key more (`count-next`), at most n (`count-le`), subsets, equal sets, one member less (`count-minus`), some, none, one member
 -- more (`count-more`), strict subsets (`count-strict`).
 --
--- Not here: members of `_∪_` (`Tests`: `or-left`, `or-right`, `or-cases`) and of `_∩_` (`laws`, `Choice`: `and-both`, `and-left`,
+-- Not here: members of `_∪_` (`laws`, `Choice`: `or-left`, `or-right`, `or-cases`) and of `_∩_` (`laws`, `Choice`: `and-both`, `and-left`,
 -- `and-right`); a member of `only x` is x (`borrow.Author.Tests`: `eqb-true`); `all` below n (`laws`, `Checks`); a word as a set (`Words`).
 -- `any` and `count` look at the top key first, so that what a loop over 0, 1, .. knows at key k is `any k S` and `count k S`.
 -- `_∪_`, `_∩_` and `_∖_` bind alike and group to the left; `_∈_`, `_∉_` and `_⊆_` bind looser.
@@ -22,9 +22,8 @@ use native.Mathlib.Numerals.{add-one}
 use native.Mathlib.Omega.{arith}
 use lib.Dec.{eqb}
 use borrow.Author.Tests.{eqb-true, eqb-false, eq-eqb, ne-eqb, not-true}
-use Rattle.laws.specs.Choice.{cases, clash, and-left, and-right, and-both}
+use Rattle.laws.specs.Choice.{cases, clash, and-left, and-right, and-both, or-left, or-right, or-cases, fails, agree}
 use Rattle.laws.specs.Checks.{all, all-of, all-at}
-use Rattle.order.specs.Tests.{or-left, or-right, or-cases, fails, agree}
 
 abbrev pub Set : Type 0
 Set = ℕ → Bool

@@ -11,8 +11,7 @@ use mathlib.Core.Bool.{Bool, true, not, _&&_}
 use Prim.Native.Nat.{ℕ, zero, suc, _-_, _≤_, _<_}
 use native.Mathlib.Omega.{arith}
 use borrow.Author.Tests.{not-true}
-use Rattle.laws.specs.Choice.{clash, and-left, and-right, and-both}
-use Rattle.order.specs.Tests.{fails}
+use Rattle.laws.specs.Choice.{clash, and-left, and-right, and-both, fails}
 use Rattle.order.specs.KeySets.{Set, _∈_, _∉_, _⊆_, _∩_, _∖_, in-minus, minus-in, minus-out}
 use Rattle.order.specs.KeySets.{any, any-of, any-not, search, count, count-le, count-some, count-none, count-subset, count-strict}
 use Rattle.order.specs.Graphs.{Graph, Reach, Acyclic, Over, Among, among-over, Founded, founded-reach, Last, last-from}

@@ -15,8 +15,7 @@ use native.Mathlib.Omega.{arith}
 use lib.Dec.{eqb}
 use lib.ListN.{length}
 use borrow.Author.Tests.{eqb-true, ne-eqb}
-use Rattle.laws.specs.Choice.{cases, clash, and-left, and-right, and-both}
-use Rattle.order.specs.Tests.{or-cases, fails}
+use Rattle.laws.specs.Choice.{cases, clash, and-left, and-right, and-both, or-cases, fails}
 use Rattle.order.specs.KeySets.{Set, _∈_, _∉_, _⊆_, empty, only, only-self, _∩_, _∖_, members, same-set, None, Below}
 use Rattle.order.specs.KeySets.{in-minus, minus-in, minus-out, minus-minus, search, count, count-le, count-none, count-more, count-strict}
 use Rattle.order.specs.Graphs.{Graph, Reach, Acyclic, Over, Among, Closed, Founded, among-founded, founded-reach, Last, last-from}

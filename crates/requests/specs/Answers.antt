@@ -5,7 +5,7 @@ use Prim.Native.Nat.{ℕ}
 use mathlib.Core.List.{List, [], _∷_}
 use mathlib.Core.Bool.{Bool, true, false, _&&_, _||_, not}
 use lib.Dec.{eqb, ltb, leb}
-use Rattle.laws.specs.Choice.{pick, sameb}
+use Rattle.laws.specs.Choice.{pick, sameb, _⇒_}
 use Rattle.laws.specs.Checks.{all}
 use Rattle.order.specs.KeySets.{Set, any, count}
 use Rattle.order.specs.Words.{wordOf}
@@ -15,7 +15,7 @@ use Rattle.nets.specs.Net.{Kind, free, live, past, tuple, consumed, isFree, isP
 use Rattle.nets.specs.Forward as Forward
 use Rattle.nets.specs.Forward.{forward}
 use Rattle.nets.specs.Undo.{undo, rollback, touched}
-use Rattle.requests.specs.Checks.{Check, check, refusal, _⇒_}
+use Rattle.requests.specs.Checks.{Check, check, refusal}
 
 -- "Six bytes: code, key, tuple key, first and second fresh key, fresh locality."
 pub record Request : Type 0 where

@@ -1,6 +1,5 @@
 -- Checks in number order: the first that fails gives the answer.
--- In order: `Check` and `refusal`; what a check asks of some kinds only (`_⇒_`, with `told` and `tells`); a refusal is 0 exactly when all hold
--- (`all-hold`, `none-fails`), and otherwise the number of the first that does not (`first-fails`).
+-- In order: `Check` and `refusal`; a refusal is 0 exactly when all hold (`all-hold`, `none-fails`), and otherwise the number of the first that does not (`first-fails`).
 -- Assumes nothing.
 use Prim.Native.Nat.{ℕ}
 use mathlib.Core.Path.{_≡_, refl}
@@ -20,20 +19,6 @@ check n b = record { number = n; holds = b }
 unfoldable pub refusal : List Check → ℕ
 refusal [] = 0
 refusal (c ∷ cs) = pick (c .holds) (refusal cs) (c .number)
-
--- what a check asks only of some kinds
-infixr 25 _⇒_
-abbrev pub _⇒_ : Bool → Bool → Bool
-true ⇒ b = b
-false ⇒ b = true
-
-pub told : (a b : Bool) → (a ⇒ b) ≡ true → a ≡ true → b ≡ true
-told true b h p = h
-told false b h p = clash false p refl
-
-pub tells : (a b : Bool) → (a ≡ true → b ≡ true) → (a ⇒ b) ≡ true
-tells true b h = h refl
-tells false b h = refl
 
 -- every check of the list holds
 abbrev pub Hold : List Check → Type 0

@@ -10,9 +10,8 @@ use mathlib.Core.Bool.{Bool, true, false, _&&_, _||_, not}
 use native.Mathlib.Omega.{arith}
 use lib.Dec.{eqb, ltb, leb}
 use borrow.Author.Tests.{eqb-true, eqb-false, eq-eqb, ne-eqb, ltb-true, lt-ltb, leb-true, not-true, not-false}
-use Rattle.laws.specs.Choice.{pick, cases, clash, and-left, and-right, and-both, sameb, sameb-eq}
+use Rattle.laws.specs.Choice.{pick, cases, clash, and-left, and-right, and-both, sameb, sameb-eq, or-left, or-right, or-cases, fails, _⇒_, told, tells}
 use Rattle.laws.specs.Checks.{all, all-of, all-at}
-use Rattle.order.specs.Tests.{or-left, or-right, or-cases, fails}
 use Rattle.order.specs.KeySets.{Set, _∈_, _∉_, any, any-of, any-some, any-not}
 use Rattle.names.specs.Names.{keyCount, localityCount, none, belowOrNone}
 use Rattle.nets.specs.Rules.{Rules, Act, number, acts, uses, aims, isNewloc, isSplit, secondOf, isThere}
@@ -23,7 +22,7 @@ use Rattle.nets.specs.Forward.{done, forward, Can}
 use Rattle.nets.specs.Undo.{undo, Undoable}
 use Rattle.nets.specs.Accepted.{Accepted}
 use Rattle.nets.specs.Events.{event-below, held-below, read-tuple}
-use Rattle.requests.specs.Checks.{Check, check, refusal, _⇒_, told, tells, Hold, Numbered, none-fails, all-hold}
+use Rattle.requests.specs.Checks.{Check, check, refusal, Hold, Numbered, none-fails, all-hold}
 use Rattle.requests.specs.Answers.{Request, isLive, isTuple, inRange, asNeeded, noPlaces, placesOf, places, tupleThere, freshFree, madeStays, canUndo, forwardChecks, backwardChecks}
 
 -- ---- kinds as tests

@@ -8,8 +8,7 @@ use native.Mathlib.Omega.{arith}
 use lib.Dec.{eqb, ltb, leb}
 use lib.ListN.{replicate}
 use borrow.Author.Tests.{eqb-true, eqb-false, eq-eqb, ne-eqb, ltb-true, ltb-false, lt-ltb, le-ltb, leb-true, lt-leb, le-leb}
-use Rattle.laws.specs.Choice.{pick, cases, clash, and-left, and-right, and-both}
-use Rattle.order.specs.Tests.{or-left, or-right, or-cases}
+use Rattle.laws.specs.Choice.{pick, cases, clash, and-left, and-right, and-both, or-left, or-right, or-cases}
 use Rattle.names.specs.Names.{keyCount, localityCount, firstMade, key, locality, node}
 use Rattle.images.specs.Script.{scriptInRange}
 use Rattle.images.specs.Net.{datum0}

@@ -38,7 +38,7 @@ module _ (s : Script) (w : ShapedScript s) (range : scriptInRange s ≡ true) wh
         first = x .first .0;
         second = x .second .0;
         used = x .used .0;
-        place = x .place .0
+        place = x .place .0;
       }
 
   -- "bit n is locality n"; "slot n is key n"
@@ -46,7 +46,7 @@ module _ (s : Script) (w : ShapedScript s) (range : scriptInRange s ≡ true) wh
   view n =
       record {
         present = λ l. ltb l localityCount && member (n .present .0) l;
-        slot = λ k. pick (ltb k keyCount) (slotView (I.slotAt n k)) freeSlot
+        slot = λ k. pick (ltb k keyCount) (slotView (I.slotAt n k)) freeSlot;
       }
 
   -- "A free slot is all 0."
