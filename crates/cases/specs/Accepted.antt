@@ -20,8 +20,8 @@ use Rattle.images.specs.Net.{processInRange, tupleInRange, refsInRange, variabl
 use Rattle.laws.specs.Lists.{tab}
 use Rattle.matching.specs.Evaluate
 use Rattle.matching.specs.Match
-use Rattle.rules.specs.Body.{Body}
-use Rattle.rules.specs.Products
+use Rattle.products.specs.Body.{Body}
+use Rattle.products.specs.Products
 use Rattle.rules.specs.Instance.{actOf}
 use Rattle.rules.specs.Roots.{rooted}
 use Rattle.nets.specs.Rule.{product}

@@ -26,8 +26,8 @@ use Rattle.matching.specs.Evaluate.{targetOf, actual}
 use Rattle.nets.specs.Rules.{Rules}
 use Rattle.nets.specs.Net.{Kind, free, live, past, tuple, consumed, Slot, Net, freeSlot, fresh, madeKey, tookTuple, readTuple, depends}
 use Rattle.nets.specs.Accepted.{Accepted}
-use Rattle.rules.specs.Body.{Body}
-use Rattle.rules.specs.Products.{target}
+use Rattle.products.specs.Body.{Body}
+use Rattle.products.specs.Products.{target}
 use Rattle.rules.specs.Instance.{actOf, rulesOf}
 use Rattle.cases.specs.Shaped.{shaped-script}
 

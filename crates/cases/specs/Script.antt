@@ -19,8 +19,8 @@ use Rattle.images.specs.Examples.{scriptT}
 use Rattle.images.specs.declared.Datum.{Datum}
 use Rattle.nets.specs.Rules.{Rules}
 use Rattle.nets.specs.Net.{Kind, free, live, past, tuple, consumed, Slot, Net, freeSlot, fresh}
-use Rattle.rules.specs.Body.{Body}
-use Rattle.rules.specs.Products.{action}
+use Rattle.products.specs.Body.{Body}
+use Rattle.products.specs.Products.{action}
 use Rattle.rules.specs.Instance.{rulesOf}
 use Rattle.cases.specs.Shaped.{shaped-script}
 

@@ -22,7 +22,7 @@ use Rattle.nets.specs.Forward.{forward}
 use Rattle.nets.specs.Undo.{madeBy, takenBy, localityBy, againBy, undoSet, touched}
 use Rattle.matching.specs.Evaluate
 use Rattle.matching.specs.Match
-use Rattle.rules.specs.Products
+use Rattle.products.specs.Products
 use Rattle.rules.specs.Instance.{actOf}
 use Rattle.requests.specs.Checks.{refusal}
 use Rattle.requests.specs.Answers

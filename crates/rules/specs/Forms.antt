@@ -28,8 +28,8 @@ use Rattle.matching.specs.Evaluate.{actual, variableOf, placeOf, targetOf, isVa
 use Rattle.matching.specs.Evaluate
 use Rattle.matching.specs.Match.{bound, withVariable}
 use Rattle.matching.specs.declared.Target.{Target}
-use Rattle.rules.specs.Body.{Body, isProcess, isTuple}
-use Rattle.rules.specs.Products.{isStep, isOut, isNewloc, isEval, isSplit, meetsTuple, hasTarget, hasFields, action, kindOf, target, numberOf, isFound, isReady, variablesAfter, referencesAfter, continuation, tupleMade, processMade, secondMade}
+use Rattle.products.specs.Body.{Body, isProcess, isTuple}
+use Rattle.products.specs.Products.{isStep, isOut, isNewloc, isEval, isSplit, meetsTuple, hasTarget, hasFields, action, kindOf, target, numberOf, isFound, isReady, variablesAfter, referencesAfter, continuation, tupleMade, processMade, secondMade}
 use Rattle.rules.specs.Nodes.{Ranged, node-cases, target-small, field-small, count-few, next-node, other-node, out-count, out-tags}
 use Rattle.rules.specs.Laws.{placed, after-bound, after-made, after-same, bound-keeps, with-keeps, set-keeps}
 

@@ -16,9 +16,9 @@ use Rattle.images.specs.Shape.{ShapedScript}
 use Rattle.images.specs.declared.Script.{Script}
 use Rattle.nets.specs.Rules.{Rules, Act, number, isTake, isRead, isNewloc, isSplit, acts, uses, aims, Second, secondOf}
 use Rattle.nets.specs.Rules
-use Rattle.rules.specs.Body.{Body, isProcess, isTuple}
-use Rattle.rules.specs.Products
-use Rattle.rules.specs.Products.{isStep, kindOf, target, isReady, fits, continuation, secondMade, tupleMade, processMade, meetsTuple, hasTarget}
+use Rattle.products.specs.Body.{Body, isProcess, isTuple}
+use Rattle.products.specs.Products
+use Rattle.products.specs.Products.{isStep, kindOf, target, isReady, fits, continuation, secondMade, tupleMade, processMade, meetsTuple, hasTarget}
 use Rattle.rules.specs.Roots.{names, refers, rooted}
 use Rattle.rules.specs.Laws.{rooted-at, rooted-names, rooted-refers, target-named, continuation-names, second-names, continuation-refers, second-refers}
 use Rattle.rules.specs.Forms.{continuation-process, made-tuple, made-process}

@@ -27,8 +27,8 @@ use Rattle.images.specs.declared.Script.{Script}
 use Rattle.images.specs.declared.Datum.{Datum}
 use Rattle.matching.specs.Evaluate.{actual, variableOf, placeOf, targetOf, isVariable, isFormal}
 use Rattle.matching.specs.Match.{bindOne, bindUpTo, bound, withVariable}
-use Rattle.rules.specs.Body.{Body, isProcess, isTuple}
-use Rattle.rules.specs.Products.{isOut, isIn, isRead, isNewloc, isEval, isSplit, meetsTuple, hasTarget, action, kindOf, target, numberOf, variablesAfter, referencesAfter, continuation, tupleMade, processMade, secondMade}
+use Rattle.products.specs.Body.{Body, isProcess, isTuple}
+use Rattle.products.specs.Products.{isOut, isIn, isRead, isNewloc, isEval, isSplit, meetsTuple, hasTarget, action, kindOf, target, numberOf, variablesAfter, referencesAfter, continuation, tupleMade, processMade, secondMade}
 use Rattle.rules.specs.Nodes.{Ranged, node-cases, target-small, field-small, count-few, next-node, other-node, split-reference, out-count, out-tags}
 use Rattle.rules.specs.Roots.{isPlace, names, refers, isHome, rooted}
 

@@ -1,6 +1,4 @@
--- What a rule makes: the one definition that forward steps, acceptance and backward steps share.
-pub mod Body
-pub mod Products
+-- The rules of a script, as the theory of nets asks for them, and that theory of every script.
 pub mod Nodes
 pub mod Roots
 pub mod Laws
@@ -8,4 +6,3 @@ pub mod Forms
 pub mod Instance
 pub mod View
 pub mod Theorems
-pub mod Examples

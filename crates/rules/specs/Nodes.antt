@@ -19,7 +19,7 @@ use Rattle.images.specs.Shape.{ShapedScript}
 use Rattle.images.specs.declared.Field.{Field}
 use Rattle.images.specs.declared.Action.{Action}
 use Rattle.images.specs.declared.Script.{Script}
-use Rattle.rules.specs.Products.{isStep, isOut, isEval, isSplit}
+use Rattle.products.specs.Products.{isStep, isOut, isEval, isSplit}
 
 pub record Ranged (a : Action) : Type 0 where
   pub kind : a .kind < 8

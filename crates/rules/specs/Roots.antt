@@ -11,7 +11,7 @@ use Rattle.order.specs.KeySets.{any}
 use Rattle.names.specs.Names.{keyCount, firstMade, none, key}
 use Rattle.images.specs.Net.{datum0, refsAre}
 use Rattle.images.specs.declared.Datum.{Datum}
-use Rattle.rules.specs.Body.{Body}
+use Rattle.products.specs.Body.{Body}
 
 -- a variable or a field that holds this locality
 abbrev pub isPlace : ℕ → Datum → Bool

@@ -17,7 +17,7 @@ use Rattle.images.specs.declared.Script.{Script}
 use Rattle.images.specs.declared.Slot as Image
 use Rattle.images.specs.declared.Net as Images
 use Rattle.nets.specs.Net.{Kind, free, live, past, tuple, consumed, Slot, Net, freeSlot}
-use Rattle.rules.specs.Body.{bodyOf}
+use Rattle.products.specs.Body.{bodyOf}
 use Rattle.rules.specs.Instance.{rulesOf}
 
 -- "0 free, 1 live process, 2 past process, 3 live tuple, 4 consumed tuple"

@@ -1,12 +1,10 @@
-// The rules are theory: see specs/. This is the one thing of them that is code, the number of kinds that make an event.
+// The rules of a script are theory: see specs/. The one piece of code here is how many keys they are about.
 ghost use mathlib.Core.Path.{_≡_};
-ghost use lib.Dec.{leb};
-ghost use mathlib.Core.Bool.{_&&_};
-ghost use Rattle.rules.specs.Products.{isStep};
+ghost use Rattle.names.specs.Names.{keyCount};
+use names::Key;
 
-// Whether a node of this kind is a step: out, in, read, newloc, eval or split.
-pub fn is_step(kind: u8) -> bool
-    ensures { λ r. ⌜ r ≡ isStep kind ⌝ }
+pub fn key_count() -> usize
+    ensures { λ r. ⌜ r ≡ keyCount ⌝ }
 {
-    1 <= kind && kind <= 6
+    Key::COUNT
 }

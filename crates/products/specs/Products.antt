@@ -21,7 +21,7 @@ use Rattle.matching.specs.Evaluate.{actual, targetOf, fieldsReady}
 use Rattle.matching.specs.Match.{meets, bound, withVariable}
 use Rattle.matching.specs.declared.Target.{Target}
 use Rattle.matching.specs.declared.Target.the-variants as Target
-use Rattle.rules.specs.Body.{Body}
+use Rattle.products.specs.Body.{Body}
 
 -- ---- kinds: "0 nil, 1 out, 2 in, 3 read, 4 newloc, 5 eval, 6 split, 7 roll"
 -- "a past process is at kinds 1..6"

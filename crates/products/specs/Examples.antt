@@ -18,8 +18,8 @@ use Rattle.images.specs.declared.Datum.{Datum}
 use Rattle.matching.specs.Evaluate
 use Rattle.matching.specs.Evaluate.{targetOf, actual, fieldsReady}
 use Rattle.matching.specs.Match.{meets, placeMeets, fieldMeets, bound, bindUpTo, bindOne}
-use Rattle.rules.specs.Body.{Body}
-use Rattle.rules.specs.Products.{target, isReady, fits, variablesAfter, referencesAfter, continuation, tupleMade, processMade, secondMade}
+use Rattle.products.specs.Body.{Body}
+use Rattle.products.specs.Products.{target, isReady, fits, variablesAfter, referencesAfter, continuation, tupleMade, processMade, secondMade}
 
 -- 0 out ⟨6, locality 1, variable 0⟩@2 with reference 1; 1 in ⟨!x3, !u4⟩@variable 1 with reference 2; 2 read ⟨variable 0, locality 3⟩@2;
 -- 3 newloc variable 5 with reference 0; 4 eval 7 @variable 1 with reference 3; 5 split 8, 9; each goes on at 10

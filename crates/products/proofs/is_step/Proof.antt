@@ -1,8 +1,8 @@
 -- `is_step` meets its contract. Assumes nothing.
 use borrow.Author.Tests.{le-leb, lt-leb}
 use borrow.Author.Needs.{needs}
-use Rattle.rules.proofs.is_step.Statement.{statement}
-use Rattle.rules.proofs.is_step.Tie as tie
+use Rattle.products.proofs.is_step.Statement.{statement}
+use Rattle.products.proofs.is_step.Tie as tie
 
 returns : tie.Need-returns
 returns c = rw (le-leb _ _ (c .if1 .taken))
