@@ -14,7 +14,7 @@ use Rattle.laws.specs.Checks.{all, all-at}
 use Rattle.order.specs.Graphs.{Reach, here, step}
 use Rattle.names.specs.Names.{nodeCount, none, key, locality, node, reference}
 use Rattle.images.specs.Script.{field0, nodeInPlace, targetInPlace, referenceInPlace, fieldInRange, countInPlace, fieldInPlace, fieldsInPlace, sameFormal, freshFormal, formalsDistinct, placesInRow, fieldsInRow, actionInRange, scriptInRange, actionAt, fieldAt}
-use Rattle.images.specs.Net.{datum0}
+use Rattle.images.specs.Net.{datum0, refsAre, processInRange, tupleInRange, refsInRange, variablesInRange, isDatum, isSet, isUnset, madeAre, dataFill, fieldOrBlank}
 use Rattle.images.specs.Read.{nilAction}
 use Rattle.images.specs.Examples.{field, action}
 use Rattle.images.specs.Shape.{ShapedScript}
@@ -22,12 +22,23 @@ use Rattle.images.specs.declared.Field.{Field}
 use Rattle.images.specs.declared.Action.{Action}
 use Rattle.images.specs.declared.Script.{Script}
 use Rattle.images.specs.declared.Datum.{Datum}
-use Rattle.matching.specs.Evaluate.{targetOf, actual}
+use Rattle.matching.specs.Evaluate
+use Rattle.matching.specs.Evaluate.{targetOf, actual, fieldsReady}
+use Rattle.matching.specs.Match.{meets, placeMeets, fieldMeets, bound, bindUpTo, bindOne}
 use Rattle.nets.specs.Rules.{Rules}
-use Rattle.nets.specs.Net.{Kind, free, live, past, tuple, consumed, Slot, Net, freeSlot, fresh, madeKey, tookTuple, readTuple, depends}
+use Rattle.nets.specs.Net.{Kind, free, live, past, tuple, consumed, Slot, Net, freeSlot, fresh, madeKey, tookTuple, readTuple, madeLocality, depends}
+use Rattle.nets.specs.Rule.{product}
 use Rattle.nets.specs.Accepted.{Accepted}
 use Rattle.products.specs.Body.{Body}
-use Rattle.products.specs.Products.{target}
+use Rattle.products.specs.Products.{target, isReady, fits, continuation, secondMade, tupleMade, processMade, variablesAfter, referencesAfter}
+use Rattle.laws.specs.Lists.{tab}
+use Rattle.order.specs.KeySets.{any}
+use Rattle.order.specs.Dependents
+use Rattle.order.specs.Peeling
+use Rattle.order.specs.Peeling.{acyclic}
+use Rattle.nets.specs.Accepting.{accepted, formed, sameSlot, agreed, ruled, placed, fitting, onceEach, saidOnce, tuplesRight, localitiesRight, rootsRight}
+use Rattle.rules.specs.Same.{isAccepted, sameBody, sameList}
+use Rattle.rules.specs.Roots.{rooted}
 use Rattle.rules.specs.Instance.{actOf, rulesOf}
 use Rattle.cases.specs.Shaped.{shaped-script}
 
@@ -125,3 +136,28 @@ nowhere = net (λ l. eqb l 0) (event (at 5 0 nothing) 1 2 none none ∷ ended 0 
 pub nowhere-refused : Accepted nowhere → ⊥
 unfolding actOf target targetOf actual
 nowhere-refused ok = true≢false (sym (ok .agrees 0 refl .rule .there refl))
+
+-- ---- the same by the test of acceptance, which computes
+
+abbrev tested : Net S → Bool
+tested n = isAccepted script shaped range n
+
+selfMade-tested : tested selfMade ≡ false
+unfolding accepted formed sameSlot agreed ruled placed fitting onceEach saidOnce tuplesRight localitiesRight rootsRight sameBody sameList acyclic Dependents.rounds Peeling.peel Peeling.last depends madeKey tookTuple readTuple madeLocality any all product actOf target targetOf actual isReady fits continuation secondMade tupleMade processMade variablesAfter referencesAfter meets placeMeets fieldMeets bound bindUpTo bindOne fieldsReady Evaluate.isReady rooted refsAre processInRange tupleInRange refsInRange variablesInRange isDatum isSet isUnset madeAre dataFill fieldOrBlank tab
+selfMade-tested = refl
+
+readAfter-tested : tested readAfter ≡ false
+unfolding accepted formed sameSlot agreed ruled placed fitting onceEach saidOnce tuplesRight localitiesRight rootsRight sameBody sameList acyclic Dependents.rounds Peeling.peel Peeling.last depends madeKey tookTuple readTuple madeLocality any all product actOf target targetOf actual isReady fits continuation secondMade tupleMade processMade variablesAfter referencesAfter meets placeMeets fieldMeets bound bindUpTo bindOne fieldsReady Evaluate.isReady rooted refsAre processInRange tupleInRange refsInRange variablesInRange isDatum isSet isUnset madeAre dataFill fieldOrBlank tab
+readAfter-tested = refl
+
+crossed-tested : tested crossed ≡ false
+unfolding accepted formed sameSlot agreed ruled placed fitting onceEach saidOnce tuplesRight localitiesRight rootsRight sameBody sameList acyclic Dependents.rounds Peeling.peel Peeling.last depends madeKey tookTuple readTuple madeLocality any all product actOf target targetOf actual isReady fits continuation secondMade tupleMade processMade variablesAfter referencesAfter meets placeMeets fieldMeets bound bindUpTo bindOne fieldsReady Evaluate.isReady rooted refsAre processInRange tupleInRange refsInRange variablesInRange isDatum isSet isUnset madeAre dataFill fieldOrBlank tab
+crossed-tested = refl
+
+madeTwice-tested : tested madeTwice ≡ false
+unfolding accepted formed sameSlot agreed ruled placed fitting onceEach saidOnce tuplesRight localitiesRight rootsRight sameBody sameList acyclic Dependents.rounds Peeling.peel Peeling.last depends madeKey tookTuple readTuple madeLocality any all product actOf target targetOf actual isReady fits continuation secondMade tupleMade processMade variablesAfter referencesAfter meets placeMeets fieldMeets bound bindUpTo bindOne fieldsReady Evaluate.isReady rooted refsAre processInRange tupleInRange refsInRange variablesInRange isDatum isSet isUnset madeAre dataFill fieldOrBlank tab
+madeTwice-tested = refl
+
+nowhere-tested : tested nowhere ≡ false
+unfolding accepted formed sameSlot agreed ruled placed fitting onceEach saidOnce tuplesRight localitiesRight rootsRight sameBody sameList acyclic Dependents.rounds Peeling.peel Peeling.last depends madeKey tookTuple readTuple madeLocality any all product actOf target targetOf actual isReady fits continuation secondMade tupleMade processMade variablesAfter referencesAfter meets placeMeets fieldMeets bound bindUpTo bindOne fieldsReady Evaluate.isReady rooted refsAre processInRange tupleInRange refsInRange variablesInRange isDatum isSet isUnset madeAre dataFill fieldOrBlank tab
+nowhere-tested = refl

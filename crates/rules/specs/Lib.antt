@@ -4,5 +4,6 @@ pub mod Roots
 pub mod Laws
 pub mod Forms
 pub mod Instance
+pub mod Same
 pub mod View
 pub mod Theorems
