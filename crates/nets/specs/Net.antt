@@ -33,6 +33,9 @@ isFree c = eqb (kindNumber c) 0
 abbrev pub isHeld : Kind → Bool
 isHeld c = not (isFree c)
 
+abbrev pub isLive : Kind → Bool
+isLive c = eqb (kindNumber c) 1
+
 abbrev pub isPast : Kind → Bool
 isPast c = eqb (kindNumber c) 2
 

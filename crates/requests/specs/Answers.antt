@@ -7,13 +7,14 @@ use mathlib.Core.Bool.{Bool, true, false, _&&_, _||_, not}
 use lib.Dec.{eqb, ltb, leb}
 use Rattle.laws.specs.Choice.{pick, sameb, _⇒_}
 use Rattle.laws.specs.Checks.{all}
-use Rattle.order.specs.KeySets.{Set, any, count}
+use Rattle.order.specs.KeySets.{any}
 use Rattle.order.specs.Words.{wordOf}
 use Rattle.names.specs.Names.{keyCount, localityCount, none, belowOrNone}
 use Rattle.nets.specs.Rules.{Rules, Act, number, acts, uses, aims, isNewloc, isSplit, secondOf, isThere}
-use Rattle.nets.specs.Net.{Kind, free, live, past, tuple, consumed, isFree, isPast, Slot, Net, events, makes, reads, dependents}
+use Rattle.nets.specs.Net.{isFree, isLive, isPast, isLiveTuple, Slot, Net, events, makes, reads}
 use Rattle.nets.specs.Forward as Forward
 use Rattle.nets.specs.Forward.{forward}
+use Rattle.nets.specs.Undo as Undo
 use Rattle.nets.specs.Undo.{undo, rollback, touched}
 use Rattle.requests.specs.Checks.{Check, check, refusal}
 
@@ -32,20 +33,6 @@ pub record Outcome (R : Rules) : Type 0 where
   pub undone : ℕ
   pub touched : ℕ
   pub net : Net R
-
-abbrev pub isLive : Kind → Bool
-isLive free = false
-isLive live = true
-isLive past = false
-isLive tuple = false
-isLive consumed = false
-
-abbrev pub isTuple : Kind → Bool
-isTuple free = false
-isTuple live = false
-isTuple past = false
-isTuple tuple = true
-isTuple consumed = false
 
 -- 3: "code above 3; key above 63; others neither 255 nor in range"
 unfoldable pub inRange : Request → Bool
@@ -80,7 +67,7 @@ module _ {R : Rules} (rolled : R .Body → ℕ) where
 
     -- 9: "tuple key not a live tuple at the target"
     unfoldable pub tupleThere : Bool
-    tupleThere = isTuple (n .slot (r .used) .kind) && eqb (R .at (n .slot (r .used) .body)) (R .target (slot .body))
+    tupleThere = isLiveTuple (n .slot (r .used) .kind) && eqb (R .at (n .slot (r .used) .body)) (R .target (slot .body))
 
     -- 11: "a fresh key not free, both equal, or fresh locality below 8 or present"
     unfoldable pub freshFree : Bool
@@ -94,10 +81,10 @@ module _ {R : Rules} (rolled : R .Body → ℕ) where
     unfoldable pub madeStays : ℕ → Bool
     madeStays k =
         makes n (r .key) k ⇒
-        ((isLive (n .slot k .kind) || isTuple (n .slot k .kind)) && not (any keyCount (λ f. reads n f k)))
+        ((isLive (n .slot k .kind) || isLiveTuple (n .slot k .kind)) && not (any keyCount (λ f. reads n f k)))
 
     unfoldable pub canUndo : Bool
-    canUndo = all keyCount madeStays && all keyCount (λ k. reads n (r .key) k ⇒ isTuple (n .slot k .kind))
+    canUndo = all keyCount madeStays && all keyCount (λ k. reads n (r .key) k ⇒ isLiveTuple (n .slot k .kind))
 
     -- ---- the checks of each code
 
@@ -142,7 +129,7 @@ module _ {R : Rules} (rolled : R .Body → ℕ) where
 
     -- "Undone is their number": a forward step undoes none, a backward step one
     unfoldable pub undone : ℕ
-    undone = pick (eqb (r .code) 0) 0 (pick (eqb (r .code) 1) 1 (count keyCount (dependents n event)))
+    undone = pick (eqb (r .code) 0) 0 (pick (eqb (r .code) 1) 1 (Undo.undone n event))
 
     -- "Touched is a 32-bit set: the localities at which a slot became free in the call; 0 for a forward step."
     unfoldable pub touchedWord : ℕ

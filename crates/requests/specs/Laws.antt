@@ -15,38 +15,16 @@ use Rattle.laws.specs.Checks.{all, all-of, all-at}
 use Rattle.order.specs.KeySets.{Set, _∈_, _∉_, any, any-of, any-some, any-not}
 use Rattle.names.specs.Names.{keyCount, localityCount, none, belowOrNone}
 use Rattle.nets.specs.Rules.{Rules, Act, number, acts, uses, aims, isNewloc, isSplit, secondOf, isThere}
-use Rattle.nets.specs.Net.{Kind, free, live, past, tuple, consumed, isFree, isPast, Slot, Net, forgetAs, forget, events, madeKey, readTuple, makes, reads}
+use Rattle.nets.specs.Net.{Kind, free, live, past, tuple, consumed, isFree, isLive, isPast, isLiveTuple, Slot, Net, forgetAs, forget, events, madeKey, readTuple, makes, reads}
 use Rattle.nets.specs.Rule.{met, Places, Rule}
 use Rattle.nets.specs.Forward as Forward
 use Rattle.nets.specs.Forward.{done, forward, Can}
 use Rattle.nets.specs.Undo.{undo, Undoable}
 use Rattle.nets.specs.Accepted.{Accepted}
+use Rattle.nets.specs.Records.{same-kind}
 use Rattle.nets.specs.Events.{event-below, held-below, read-tuple}
 use Rattle.requests.specs.Checks.{Check, check, refusal, Hold, Numbered, none-fails, all-hold}
-use Rattle.requests.specs.Answers.{Request, isLive, isTuple, inRange, asNeeded, noPlaces, placesOf, places, tupleThere, freshFree, madeStays, canUndo, forwardChecks, backwardChecks}
-
--- ---- kinds as tests
-
-live-is : (k : Kind) → isLive k ≡ true → k ≡ live
-live-is free h = clash false h refl
-live-is live h = refl
-live-is past h = clash false h refl
-live-is tuple h = clash false h refl
-live-is consumed h = clash false h refl
-
-tuple-is : (k : Kind) → isTuple k ≡ true → k ≡ tuple
-tuple-is free h = clash false h refl
-tuple-is live h = clash false h refl
-tuple-is past h = clash false h refl
-tuple-is tuple h = refl
-tuple-is consumed h = clash false h refl
-
-free-is : (k : Kind) → isFree k ≡ true → k ≡ free
-free-is free h = refl
-free-is live h = clash false h refl
-free-is past h = clash false h refl
-free-is tuple h = clash false h refl
-free-is consumed h = clash false h refl
+use Rattle.requests.specs.Answers.{Request, inRange, asNeeded, noPlaces, placesOf, places, tupleThere, freshFree, madeStays, canUndo, forwardChecks, backwardChecks}
 
 -- ---- places
 
@@ -192,13 +170,13 @@ module _ {R : Rules} (rolled : R .Body → ℕ) (keys : R .keys ≡ keyCount) (u
     there-tuple : uses a ≡ true → n .slot (r .used) .kind ≡ tuple
     unfolding tupleThere
     there-tuple t =
-        tuple-is (n .slot (r .used) .kind) (and-left (isTuple (n .slot (r .used) .kind)) _ (told (uses a) _ (c .tuple) t))
+        same-kind (n .slot (r .used) .kind) tuple (and-left (isLiveTuple (n .slot (r .used) .kind)) _ (told (uses a) _ (c .tuple) t))
 
     there-at : uses a ≡ true → R .at (n .slot (r .used) .body) ≡ R .target (x .body)
     unfolding tupleThere
     there-at t =
         eqb-true (R .at (n .slot (r .used) .body)) (R .target (x .body))
-        (and-right (isTuple (n .slot (r .used) .kind)) _ (told (uses a) _ (c .tuple) t))
+        (and-right (isLiveTuple (n .slot (r .used) .kind)) _ (told (uses a) _ (c .tuple) t))
 
     -- what was met is what stands there
     met-is : uses a ≡ true → met n (done n q) ≡ n .slot (r .used)
@@ -222,17 +200,17 @@ module _ {R : Rules} (rolled : R .Body → ℕ) (keys : R .keys ≡ keyCount) (u
     fresh-key k h =
         let below = ltb-true k (R .keys) (and-left (ltb k (R .keys)) _ h) in
         or-cases (eqb (r .first) k) (eqb (r .second) k) (and-right (ltb k (R .keys)) _ h)
-        (λ e. subst (λ (m : ℕ). n .slot m .kind ≡ free) (eqb-true (r .first) k e) (free-is (n .slot (r .first) .kind) first-free))
+        (λ e. subst (λ (m : ℕ). n .slot m .kind ≡ free) (eqb-true (r .first) k e) (same-kind (n .slot (r .first) .kind) free first-free))
         (λ e.
         let s = eqb-true (r .second) k e in
         cases (isThere (secondOf a))
-        (λ t. subst (λ (m : ℕ). n .slot m .kind ≡ free) s (free-is (n .slot (r .second) .kind) (and-left (isFree (n .slot (r .second) .kind)) _ (second-free t))))
+        (λ t. subst (λ (m : ℕ). n .slot m .kind ≡ free) s (same-kind (n .slot (r .second) .kind) free (and-left (isFree (n .slot (r .second) .kind)) _ (second-free t))))
         (λ t. absurd (omega (arith, keys, place-none (isThere (secondOf a)) (r .second) second-place t))))
 
     the-can : Can n q
     the-can =
         record {
-          is-live = live-is (x .kind) (c .is-live);
+          is-live = same-kind (x .kind) live (c .is-live);
           rule = the-rule;
           tuple-live = there-tuple;
           fresh-keys = fresh-key;
@@ -294,7 +272,7 @@ module _ {R : Rules} (rolled : R .Body → ℕ) (keys : R .keys ≡ keyCount) (u
     holds-tuple =
         tells (uses a) _
         (λ t.
-        and-both (isTuple (n .slot (r .used) .kind)) _ (ap isTuple (can .tuple-live t))
+        and-both (isLiveTuple (n .slot (r .used) .kind)) _ (ap isLiveTuple (can .tuple-live t))
         (eq-eqb (R .at (n .slot (r .used) .body)) (R .target (x .body))
         (sym (ap (λ (s : Slot R). R .at (s .body)) (same-body t)) ∙ can .rule .here t)))
 
@@ -345,17 +323,17 @@ module _ {R : Rules} (rolled : R .Body → ℕ) (keys : R .keys ≡ keyCount) (n
   made-below k h = omega (arith, keys, ltb-true k (R .keys) (and-left (ltb k (R .keys)) _ (and-right (events n e) _ h)))
 
   abbrev stays : ℕ → Bool
-  stays k = (isLive (n .slot k .kind) || isTuple (n .slot k .kind)) && not (any keyCount (λ f. reads n f k))
+  stays k = (isLive (n .slot k .kind) || isLiveTuple (n .slot k .kind)) && not (any keyCount (λ f. reads n f k))
 
   abbrev staysRead : ℕ → Bool
-  staysRead k = reads n e k ⇒ isTuple (n .slot k .kind)
+  staysRead k = reads n e k ⇒ isLiveTuple (n .slot k .kind)
 
-  live-or-tuple : (c : Kind) → (isLive c || isTuple c) ≡ true → (c ≡ live) ⊎ (c ≡ tuple)
-  live-or-tuple c h = or-cases (isLive c) (isTuple c) h (λ t. inl (live-is c t)) (λ t. inr (tuple-is c t))
+  live-or-tuple : (c : Kind) → (isLive c || isLiveTuple c) ≡ true → (c ≡ live) ⊎ (c ≡ tuple)
+  live-or-tuple c h = or-cases (isLive c) (isLiveTuple c) h (λ t. inl (same-kind c live t)) (λ t. inr (same-kind c tuple t))
 
-  is-one : (c : Kind) → (c ≡ live) ⊎ (c ≡ tuple) → (isLive c || isTuple c) ≡ true
+  is-one : (c : Kind) → (c ≡ live) ⊎ (c ≡ tuple) → (isLive c || isLiveTuple c) ≡ true
   is-one c =
-      ⊎-elim (λ (t : c ≡ live). ap (λ (d : Kind). isLive d || isTuple d) t) (λ (t : c ≡ tuple). ap (λ (d : Kind). isLive d || isTuple d) t)
+      ⊎-elim (λ (t : c ≡ live). ap (λ (d : Kind). isLive d || isLiveTuple d) t) (λ (t : c ≡ tuple). ap (λ (d : Kind). isLive d || isLiveTuple d) t)
 
   -- "12: code 1, and not undoable": the check holds exactly when the event may be undone
   pub undo-can : events n e ≡ true → canUndo rolled n r ≡ true → Undoable n e
@@ -366,14 +344,14 @@ module _ {R : Rules} (rolled : R .Body → ℕ) (keys : R .keys ≡ keyCount) (n
       let stay : (k : ℕ) → makes n e k ≡ true → stays k ≡ true = λ k m. told (makes n e k) (stays k) (made k (made-below k m)) m in
       record {
         is-past = p;
-        made-live = λ k m. live-or-tuple (n .slot k .kind) (and-left (isLive (n .slot k .kind) || isTuple (n .slot k .kind)) _ (stay k m));
+        made-live = λ k m. live-or-tuple (n .slot k .kind) (and-left (isLive (n .slot k .kind) || isLiveTuple (n .slot k .kind)) _ (stay k m));
         unread =
             λ k f m.
             fails (reads n f k)
             (λ q.
             clash (any keyCount (λ f. reads n f k)) (any-of keyCount (λ f. reads n f k) f (reader-below f k q) q)
-            (not-true _ (and-right (isLive (n .slot k .kind) || isTuple (n .slot k .kind)) _ (stay k m))));
-        read-live = λ k q. tuple-is (n .slot k .kind) (told (reads n e k) _ (read k (read-below e k q)) q);
+            (not-true _ (and-right (isLive (n .slot k .kind) || isLiveTuple (n .slot k .kind)) _ (stay k m))));
+        read-live = λ k q. same-kind (n .slot k .kind) tuple (told (reads n e k) _ (read k (read-below e k q)) q);
       }
 
   pub can-undo : Undoable n e → canUndo rolled n r ≡ true
@@ -384,6 +362,6 @@ module _ {R : Rules} (rolled : R .Body → ℕ) (keys : R .keys ≡ keyCount) (n
       (λ k l.
       tells (makes n e k) (stays k)
       (λ m.
-      and-both (isLive (n .slot k .kind) || isTuple (n .slot k .kind)) _ (is-one (n .slot k .kind) (u .made-live k m))
+      and-both (isLive (n .slot k .kind) || isLiveTuple (n .slot k .kind)) _ (is-one (n .slot k .kind) (u .made-live k m))
       (ap not (any-not keyCount (λ f. reads n f k) (λ f l. u .unread k f m))))))
-      (all-of keyCount staysRead (λ k l. tells (reads n e k) _ (λ q. ap isTuple (u .read-live k q))))
+      (all-of keyCount staysRead (λ k l. tells (reads n e k) _ (λ q. ap isLiveTuple (u .read-live k q))))
