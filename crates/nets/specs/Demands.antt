@@ -120,6 +120,10 @@ module _ {R : Rules} (n : Net R) (ok : Accepted n) where
   pub roll-frees : (k r : ℕ) → k ∈ held n → R .refers (n .slot k .body) r ≡ true → rollback n r .slot k ≡ freeSlot
   roll-frees k r h q = K.rollback-frees n ok r k (O.reference-from n ok k r h q .after)
 
+  -- A roll keeps acceptance: the key that it holds is an event.
+  pub roll-accepted : (k r : ℕ) → k ∈ held n → R .refers (n .slot k .body) r ≡ true → Accepted (rollback n r)
+  roll-accepted k r h q = K.rollback-accepted n ok r (O.reference-from n ok k r h q .past)
+
   -- ---- demand 3
 
   -- "Dependents of e: all reached in any number of direct steps, e included."

@@ -5,14 +5,14 @@ use Prim.Native.Nat.{ℕ, _≤_, _<_}
 use mathlib.Core.Path.{_≡_}
 use mathlib.Core.Logic.{_↔_}
 use mathlib.Core.Bool.{true}
-use Rattle.order.specs.KeySets.{_∈_, count}
-use Rattle.order.specs.Graphs.{Last}
+use Rattle.order.specs.KeySets.{_∈_, empty, count}
+use Rattle.order.specs.Graphs.{Reach, Last}
 use Rattle.images.specs.Script.{scriptInRange}
 use Rattle.images.specs.Shape.{ShapedScript}
 use Rattle.images.specs.declared.Script.{Script}
-use Rattle.nets.specs.Net.{Net, events, held, makesLocality, isMade, depends}
+use Rattle.nets.specs.Net.{Net, freeSlot, events, held, makesLocality, isMade, depends, dependents}
 use Rattle.nets.specs.Forward.{Request, forward, Can}
-use Rattle.nets.specs.Undo.{undo, rollback, undone, Undoable}
+use Rattle.nets.specs.Undo.{undo, rollback, undone, touched, Undoable}
 use Rattle.nets.specs.Accepted.{Accepted}
 use Rattle.nets.specs.Origins.{Alone, Reference}
 use Rattle.nets.specs.Loops.{again}
@@ -27,6 +27,9 @@ module _ (s : Script) (w : ShapedScript s) (range : scriptInRange s ≡ true) (n
   pub forward-then-back : (r : Request) → Can n r → undo (forward n r) (r .key) ≡ n
   forward-then-back = D.forward-then-back n ok
 
+  pub undo-again : (x : ℕ) → Undoable n x → Can (undo n x) (again n x)
+  undo-again = D.undo-again n ok
+
   pub back-then-forward : (x : ℕ) → Undoable n x → forward (undo n x) (again n x) ≡ n
   back-then-forward = D.back-then-forward n ok
 
@@ -40,6 +43,9 @@ module _ (s : Script) (w : ShapedScript s) (range : scriptInRange s ≡ true) (n
   pub rollback-accepted : (e : ℕ) → e ∈ events n → Accepted (rollback n e)
   rollback-accepted = D.rollback-accepted n ok
 
+  pub roll-accepted : (k r : ℕ) → k ∈ held n → refers (n .slot k .body) r ≡ true → Accepted (rollback n r)
+  roll-accepted = D.roll-accepted n ok
+
   -- undoable exactly when nothing depends directly
   pub undoable-iff : (x : ℕ) → Undoable n x ↔ Last (depends n) (events n) x
   undoable-iff = D.undoable-iff n ok
@@ -52,9 +58,21 @@ module _ (s : Script) (w : ShapedScript s) (range : scriptInRange s ≡ true) (n
   pub reference-held : (k r : ℕ) → k ∈ held n → refers (n .slot k .body) r ≡ true → Reference n k r
   reference-held = D.reference-held n ok
 
+  -- so a roll frees its own process
+  pub roll-frees : (k r : ℕ) → k ∈ held n → refers (n .slot k .body) r ≡ true → rollback n r .slot k ≡ freeSlot
+  roll-frees = D.roll-frees n ok
+
   -- demand 3: never sticks, one count, one net, which is the rollback's, and none left out
   pub any-order : (e : ℕ) → e ∈ events n → AnyOrder n e
   any-order = D.any-order n ok
+
+  -- "Dependents of e: all reached in any number of direct steps, e included."
+  pub dependents-reached : (e f : ℕ) → (f ∈ dependents n e) ↔ Reach (depends n) e f
+  dependents-reached = D.dependents-reached n ok
+
+  -- "*Touched*: .. 0 for a forward step"
+  pub forward-touches : (r : Request) → Can n r → touched n (forward n r) ≡ empty
+  forward-touches = D.forward-touches n ok
 
   -- "*Undone* is their number, at most 63", and at most the number of made keys
   pub undone-below : (e : ℕ) → e ∈ events n → undone n e < 64
