@@ -1,21 +1,30 @@
 -- What a rule asks and what it makes: said once, for the step that is taken and for the event that must agree with it. Document 01,
 -- "Forward rules".
 --
--- In order: the tuple met (`met`); the products (`besides`, `product`); which places a kind needs (`Places`); what a rule asks (`Rule`).
+-- In order: the tuple met (`met`), be it live or consumed now (`met-either`); the products (`besides`, `product`); which places a kind needs
+-- (`Places`); what a rule asks (`Rule`).
 -- Assumes nothing.
-use mathlib.Core.Path.{_≡_}
+use mathlib.Core.Path.{_≡_, ap, _∙_}
+use mathlib.Core.Logic.{_⊎_, ⊎-elim}
 use mathlib.Core.Bool.{true, false}
 use Prim.Native.Nat.{ℕ, _<_}
 use lib.Dec.{eqb}
 use Rattle.laws.specs.Choice.{pick}
 use Rattle.order.specs.KeySets.{_∈_}
 use Rattle.nets.specs.Rules.{Rules, none, acts, aims, uses, isNewloc, Second, nothing, aTuple, aProcess, secondOf, isThere}
-use Rattle.nets.specs.Net.{live, tuple, Slot, Net, freeSlot, fresh, forget}
+use Rattle.nets.specs.Net.{Kind, live, tuple, consumed, Slot, Net, freeSlot, fresh, forgetAs, forget}
 
 module _ {R : Rules} where
   -- the tuple that the record's process used, as it stood then
   abbrev pub met : Net R → Slot R → Slot R
   met n s = forget (n .slot (s .used))
+
+  -- "a past read uses a live or consumed tuple": either way it met a live one
+  pub met-either : (n : Net R) (s : Slot R) → (n .slot (s .used) .kind ≡ tuple) ⊎ (n .slot (s .used) .kind ≡ consumed) → met n s .kind ≡ tuple
+  met-either n s either = ⊎-elim (λ h. as-it-stood h ∙ h) (λ h. as-it-stood h) either
+    where
+      as-it-stood : {c : Kind} → n .slot (s .used) .kind ≡ c → met n s .kind ≡ forgetAs c (n .slot (s .used)) .kind
+      as-it-stood h = ap (λ (c : Kind). forgetAs c (n .slot (s .used)) .kind) h
 
   -- ---- what a rule makes
 
