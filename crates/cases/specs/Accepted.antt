@@ -32,7 +32,7 @@ use Rattle.requests.specs.Answers.{Request, inRange, places, placesOf, tupleThe
 use Rattle.requests.specs.Laws.{forward-can}
 use Rattle.cases.specs.Table.{request}
 use Rattle.laws.specs.Checks.{all}
-use Rattle.cases.specs.Script.{T, rolled, process, tupleOf, pairOf, value, place, net, slotsA, slotsB, slotsC, slotsD, netA, netB, netC, netD, netE, netF, netG}
+use Rattle.cases.specs.Script.{T, T-lawful, rolled, process, tupleOf, pairOf, value, place, net, slotsA, slotsB, slotsC, slotsD, netA, netB, netC, netD, netE, netF, netG}
 
 apart : _≡_ {A = ℕ} 0 1 → ⊥
 apart z = omega arith
@@ -161,7 +161,7 @@ abbrev pub stepped : Net T → Request → Net T
 stepped m r = forward m (places rolled m r)
 
 step-accepted : (m : Net T) → Accepted m → (r : Request) → inRange r ≡ true → refusal (forwardChecks rolled m r) ≡ 0 → Accepted (stepped m r)
-step-accepted m ok r range done = forward-accepted m ok (places rolled m r) (forward-can rolled refl refl m r range done)
+step-accepted m ok r range done = forward-accepted T-lawful m ok (places rolled m r) (forward-can rolled refl refl m r range done)
 
 pub accepted-A₁ : Accepted (stepped netA (request 0 0 255 2 3 255))
 unfolding inRange refusal forwardChecks placesOf tupleThere freshFree Products.target Products.fits Evaluate.targetOf Evaluate.actual Products.isReady Evaluate.fieldsReady Evaluate.isReady Match.meets Match.placeMeets Match.fieldMeets Match.bound Match.bindUpTo Match.bindOne all actOf madeKey tookTuple readTuple madeLocality forward product Products.continuation Products.variablesAfter Products.referencesAfter Products.secondMade Products.tupleMade Products.processMade tab any

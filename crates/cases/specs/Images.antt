@@ -6,9 +6,9 @@ use Rattle.laws.specs.Sets.{member}
 use Rattle.images.specs.Examples.{scriptT}
 use Rattle.images.specs.Examples as E
 use Rattle.rules.specs.View.{kindAs, view}
-use Rattle.cases.specs.Script.{range-T, shaped-T, netA}
+use Rattle.cases.specs.Script.{netA}
 use Rattle.cases.specs.Table.{shown}
 
-pub image-of-A : shown (view scriptT shaped-T range-T E.netA) ≡ shown netA
+pub image-of-A : shown (view scriptT E.netA) ≡ shown netA
 unfolding tab view kindAs member
 image-of-A = refl

@@ -17,7 +17,6 @@ use Rattle.images.specs.Script.{field0, nodeInPlace, targetInPlace, referenceIn
 use Rattle.images.specs.Net.{datum0, refsAre, processInRange, tupleInRange, refsInRange, variablesInRange, isDatum, isSet, isUnset, madeAre, dataFill, fieldOrBlank}
 use Rattle.images.specs.Read.{nilAction}
 use Rattle.images.specs.Examples.{field, action}
-use Rattle.images.specs.Shape.{ShapedScript}
 use Rattle.images.specs.declared.Field.{Field}
 use Rattle.images.specs.declared.Action.{Action}
 use Rattle.images.specs.declared.Script.{Script}
@@ -40,7 +39,6 @@ use Rattle.nets.specs.Accepting.{accepted, formed, sameSlot, agreed, ruled, pla
 use Rattle.rules.specs.Same.{isAccepted, sameBody, sameList}
 use Rattle.rules.specs.Roots.{rooted}
 use Rattle.rules.specs.Instance.{actOf, rulesOf}
-use Rattle.cases.specs.Shaped.{shaped-script}
 
 -- ---- the script
 
@@ -59,16 +57,13 @@ script =
           act 3 0 0 (field 2 0) (field 1 8 ∷ []) ∷ act 2 3 0 (field 2 0) (field 1 8 ∷ []) ∷ replicate 55 nilAction;
     }
 
-range : scriptInRange script ≡ true
+-- the script has its form, so that what is refused is the net
+pub range : scriptInRange script ≡ true
 unfolding scriptInRange all actionInRange placesInRow fieldsInRow nodeInPlace targetInPlace referenceInPlace fieldInRange countInPlace fieldInPlace fieldsInPlace sameFormal freshFormal formalsDistinct
 range = refl
 
-shaped : ShapedScript script
-unfolding all
-shaped = shaped-script script refl refl
-
 abbrev S : Rules
-S = rulesOf script shaped range
+S = rulesOf script
 
 -- ---- records
 
@@ -140,7 +135,7 @@ nowhere-refused ok = true≢false (sym (ok .agrees 0 refl .rule .there refl))
 -- ---- the same by the test of acceptance, which computes
 
 abbrev tested : Net S → Bool
-tested n = isAccepted script shaped range n
+tested n = isAccepted script n
 
 selfMade-tested : tested selfMade ≡ false
 unfolding accepted formed sameSlot agreed ruled placed fitting onceEach saidOnce tuplesRight localitiesRight rootsRight sameBody sameList acyclic Dependents.rounds Peeling.peel Peeling.last depends madeKey tookTuple readTuple madeLocality any all product actOf target targetOf actual isReady fits continuation secondMade tupleMade processMade variablesAfter referencesAfter meets placeMeets fieldMeets bound bindUpTo bindOne fieldsReady Evaluate.isReady rooted refsAre processInRange tupleInRange refsInRange variablesInRange isDatum isSet isUnset madeAre dataFill fieldOrBlank tab

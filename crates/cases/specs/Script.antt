@@ -17,11 +17,11 @@ use Rattle.images.specs.Net.{datum0}
 use Rattle.images.specs.Shape.{ShapedScript}
 use Rattle.images.specs.Examples.{scriptT}
 use Rattle.images.specs.declared.Datum.{Datum}
-use Rattle.nets.specs.Rules.{Rules}
+use Rattle.nets.specs.Rules.{Rules, Lawful}
 use Rattle.nets.specs.Net.{Kind, free, live, past, tuple, consumed, Slot, Net, freeSlot, fresh}
 use Rattle.products.specs.Body.{Body}
 use Rattle.products.specs.Products.{action}
-use Rattle.rules.specs.Instance.{rulesOf}
+use Rattle.rules.specs.Instance.{rulesOf, lawfulOf}
 use Rattle.cases.specs.Shaped.{shaped-script}
 
 pub range-T : scriptInRange scriptT ≡ true
@@ -33,7 +33,10 @@ unfolding all
 shaped-T = shaped-script scriptT refl refl
 
 abbrev pub T : Rules
-T = rulesOf scriptT shaped-T range-T
+T = rulesOf scriptT
+
+abbrev pub T-lawful : Lawful T
+T-lawful = lawfulOf scriptT shaped-T range-T
 
 -- the key that a roll's reference holds
 abbrev pub rolled : Body → ℕ

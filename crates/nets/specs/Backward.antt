@@ -12,7 +12,7 @@ use borrow.Author.Tests.{eqb-true, eqb-false, ne-eqb, not-true}
 use Rattle.laws.specs.Choice.{clash, and-left, and-right, and-both, or-left, or-right, or-cases, fails, agree}
 use Rattle.order.specs.KeySets.{_∈_, _∉_, _∖_, only, only-self, minus-in, minus-out, any-of, any-some, any-only}
 use Rattle.order.specs.Graphs.{acyclic-fewer, last-reach}
-use Rattle.nets.specs.Rules.{Rules, aims}
+use Rattle.nets.specs.Rules.{Rules, Lawful, aims}
 use Rattle.nets.specs.Net.{isHeld, made-tuple, tuple, consumed, isPast, isConsumed, Slot, Net, freeSlot, forget, events, held, madeKey, tookTuple, madeLocality, makes, takes, makesLocality, isMade, isMadeLocality, depends}
 use Rattle.nets.specs.Undo.{madeBy, takenBy, localityBy, againBy, undoSet, undo, Undoable}
 use Rattle.nets.specs.Accepted.{Formed, Agrees, Root, Accepted}
@@ -21,7 +21,7 @@ use Rattle.nets.specs.Events.{depends-cause, cause-depends, cause-past, 
 use Rattle.nets.specs.Origins.{target-concerns, locality-needs, locality-event}
 use Rattle.nets.specs.Undone.{Turn, freed, again, same, turn, kept, kept-event, left-alone, forget-kept, body-kept, made-freed}
 
-module _ {R : Rules} (n : Net R) (ok : Accepted n) (x : ℕ) (u : Undoable n x) where
+module _ {R : Rules} (lawful : Lawful R) (n : Net R) (ok : Accepted n) (x : ℕ) (u : Undoable n x) where
   abbrev n′ : Net R
   n′ = undo n x
 
@@ -159,7 +159,7 @@ module _ {R : Rules} (n : Net R) (ok : Accepted n) (x : ℕ) (u : Undoable n x) 
       ne
       (sym
       (last-reach (among n ok) (undoable-last n ok x u)
-      (locality-event n ok x l m e p (target-concerns R l (n .slot e .body) (locality-needs n ok x l m) a refl)))))
+      (locality-event lawful n ok x l m e p (target-concerns lawful l (n .slot e .body) (locality-needs lawful n ok x l m) a refl)))))
 
   pub present-still : (l : ℕ) → l ∈ n .present → makesLocality n x l ≡ false → l ∈ n′ .present
   present-still l p h = present-is l ∙ and-both (n .present l) _ p (rw h)
@@ -261,8 +261,8 @@ module _ {R : Rules} (n : Net R) (ok : Accepted n) (x : ℕ) (u : Undoable n x) 
                 (present-still (R .at (n .slot k .body)) (r .lives)
                 (fails (makesLocality n x (R .at (n .slot k .body)))
                 (λ m.
-                clash (R .makeable (R .at (n .slot k .body))) (locality-needs n ok x (R .at (n .slot k .body)) m)
-                (R .rooted-at (n .slot k .body) (r .rooted)))));
+                clash (R .makeable (R .at (n .slot k .body))) (locality-needs lawful n ok x (R .at (n .slot k .body)) m)
+                (lawful .rooted-at (n .slot k .body) (r .rooted)))));
           }
 
       roots : (k : ℕ) → k ∈ held n′ → k ∉ isMade n′ → Way k → Root n′ (n′ .slot k)

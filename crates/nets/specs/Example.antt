@@ -1,6 +1,6 @@
 -- The laws are not about nothing: smallest rules that obey them, and an accepted net with a past that they are about.
 --
--- In order: rules under which a process is a list of acts, all at locality 0 (`lists`); a net with one process (`before`); its out (`once`)
+-- In order: rules under which a process is a list of acts, all at locality 0 (`lists`, `lists-lawful`); a net with one process (`before`); its out (`once`)
 -- and then its in of its own tuple (`twice`); that they are accepted; that the in is a dependent of the out (`out-undone`), and what its
 -- rollback touches (`out-touched`); that the test of acceptance computes, to yes and to no (`twice-tested`, `torn-tested`).
 -- Assumes nothing.
@@ -17,7 +17,7 @@ use Rattle.laws.specs.Checks.{all}
 use Rattle.order.specs.KeySets.{any, any-not, count}
 use Rattle.order.specs.Dependents as D
 use Rattle.order.specs.Peeling.{last, peel, acyclic}
-use Rattle.nets.specs.Rules.{Rules, none, Act, number, nil, out, take}
+use Rattle.nets.specs.Rules.{Rules, Lawful, none, Act, number, nil, out, take}
 use Rattle.nets.specs.Net.{free, live, consumed, Slot, Net, freeSlot, fresh, forget, madeKey, tookTuple, readTuple, madeLocality, events, makes, takes, makesLocality, depends}
 use Rattle.nets.specs.Rule.{product}
 use Rattle.nets.specs.Forward.{Request, done, forward, Can}
@@ -57,6 +57,12 @@ lists =
       rooted = λ b. true;
       names = λ b m. false;
       refers = λ b r. false;
+    }
+
+-- they obey the laws
+abbrev pub lists-lawful : Lawful lists
+lists-lawful =
+    record {
       next-process = λ k b t l _ _ _ _ _ _. refl;
       second-tuple = λ b _ _ _. refl;
       second-process = λ b _ _ _. refl;
@@ -158,7 +164,7 @@ abbrev pub once : Net lists
 once = forward before putting
 
 pub once-accepted : Accepted once
-once-accepted = forward-accepted before before-accepted putting can-put
+once-accepted = forward-accepted lists-lawful before before-accepted putting can-put
 
 -- ---- and its in
 
@@ -201,7 +207,7 @@ abbrev pub twice : Net lists
 twice = forward once taking
 
 pub twice-accepted : Accepted twice
-twice-accepted = forward-accepted once once-accepted taking can-take
+twice-accepted = forward-accepted lists-lawful once once-accepted taking can-take
 
 -- the in depends on the out: its own process and its tuple are the out's
 pub out-undone : undone twice 0 ≡ 2

@@ -11,7 +11,7 @@ use lib.Dec.{eqb}
 use borrow.Author.Tests.{eqb-true, eqb-false}
 use Rattle.laws.specs.Choice.{cases, clash, or-right, or-cases, fails}
 use Rattle.order.specs.KeySets.{_∈_, _∉_, only, any-of}
-use Rattle.nets.specs.Rules.{Rules, uses, isTake, isRead, isNewloc, aims-stay}
+use Rattle.nets.specs.Rules.{Rules, Lawful, uses, isTake, isRead, isNewloc, aims-stay}
 use Rattle.nets.specs.Net.{isHeld, Kind, live, tuple, consumed, Slot, Net, freeSlot, fresh, forget, held, madeKey, tookTuple, madeLocality, makes, takes, makesLocality}
 use Rattle.nets.specs.Rule.{met, product, Rule}
 use Rattle.nets.specs.Forward.{Request, done, after, forward, Can, Forward}
@@ -25,45 +25,45 @@ use Rattle.nets.specs.Onward as O
 
 -- ---- forward, and back
 
-module _ {R : Rules} (n : Net R) (ok : Accepted n) (r : Request) (can : Can n r) where
+module _ {R : Rules} (lawful : Lawful R) (n : Net R) (ok : Accepted n) (r : Request) (can : Can n r) where
   abbrev m : Net R
   m = forward n r
 
   abbrev m-ok : Accepted m
-  m-ok = O.forward-accepted n ok r can
+  m-ok = O.forward-accepted lawful n ok r can
 
   abbrev m-back : Undoable m (r .key)
-  m-back = O.forward-undoable n ok r can
+  m-back = O.forward-undoable lawful n ok r can
 
   -- what was live is itself again
   live-again : (k : ℕ) → (n .slot k .kind ≡ live) ⊎ (n .slot k .kind ≡ tuple) → k ∈ held n → forget (m .slot k) ≡ n .slot k
-  live-again k l h = O.stays n ok r can k (O.held-not-new n ok r can k h) ∙ forget-live (n .slot k) l
+  live-again k l h = O.stays lawful n ok r can k (O.held-not-new lawful n ok r can k h) ∙ forget-live (n .slot k) l
 
   slot-back : (k : ℕ) → undo m (r .key) .slot k ≡ n .slot k
-  slot-back k = each (B.way m m-ok (r .key) m-back k)
+  slot-back k = each (B.way lawful m m-ok (r .key) m-back k)
     where
-      new-again : makes m (r .key) k ≡ false → takes m (r .key) k ≡ false → (k ≡ r .key → ⊥) → O.Way n ok r can k → m .slot k ≡ n .slot k
-      new-again h w z (O.new v f q) = clash (makes m (r .key) k) (O.said-x n ok r can (madeKey k) v) h
+      new-again : makes m (r .key) k ≡ false → takes m (r .key) k ≡ false → (k ≡ r .key → ⊥) → O.Way lawful n ok r can k → m .slot k ≡ n .slot k
+      new-again h w z (O.new v f q) = clash (makes m (r .key) k) (O.said-x lawful n ok r can (madeKey k) v) h
       new-again h w z (O.itself e l q) = absurd (z e)
-      new-again h w z (O.eaten v l q) = clash (takes m (r .key) k) (O.said-x n ok r can (tookTuple k) v) w
+      new-again h w z (O.eaten v l q) = clash (takes m (r .key) k) (O.said-x lawful n ok r can (tookTuple k) v) w
       new-again h w z (O.untouched v e l q) = q
 
-      each : B.Way m m-ok (r .key) m-back k → undo m (r .key) .slot k ≡ n .slot k
+      each : B.Way lawful m m-ok (r .key) m-back k → undo m (r .key) .slot k ≡ n .slot k
       each (B.made-free h q) =
-          q ∙ sym (subst (λ (c : Kind). Formed c (n .slot k)) (can .fresh-keys k (O.by-x n ok r can (madeKey k) (r .key) refl h)) (ok .formed k))
+          q ∙ sym (subst (λ (c : Kind). Formed c (n .slot k)) (can .fresh-keys k (O.by-x lawful n ok r can (madeKey k) (r .key) refl h)) (ok .formed k))
       each (B.itself z q) =
           let l : n .slot k .kind ≡ live = ap (λ (j : ℕ). n .slot j .kind) z ∙ can .is-live in
           q ∙ live-again k (inl l) (ap isHeld l)
       each (B.given-back w q) =
-          let l = O.took-live n ok r can k (O.by-x n ok r can (tookTuple k) (r .key) refl w) in
+          let l = O.took-live lawful n ok r can k (O.by-x lawful n ok r can (tookTuple k) (r .key) refl w) in
           q ∙ live-again k (inr l) (ap isHeld l)
-      each (B.untouched h z w q) = q ∙ new-again h w z (O.way n ok r can k)
+      each (B.untouched h z w q) = q ∙ new-again h w z (O.way lawful n ok r can k)
 
   present-back : (l : ℕ) → undo m (r .key) .present l ≡ n .present l
   present-back l =
-      B.present-is m m-ok (r .key) m-back l ∙
-      ap₂ (λ (a b : Bool). a && not b) (O.present-new n ok r can l) (ap (madeLocality l) (O.slot-x n ok r can)) ∙
-      cases (madeLocality l (done n r)) (λ h. rw (h, O.new-absent n ok r can l h))
+      B.present-is lawful m m-ok (r .key) m-back l ∙
+      ap₂ (λ (a b : Bool). a && not b) (O.present-new lawful n ok r can l) (ap (madeLocality l) (O.slot-x lawful n ok r can)) ∙
+      cases (madeLocality l (done n r)) (λ h. rw (h, O.new-absent lawful n ok r can l h))
       (λ h. rw (h, or-false (n .present l)) (and-true (n .present l)))
 
   pub forward-undo : undo m (r .key) ≡ n
@@ -77,7 +77,7 @@ again n x =
     let s = n .slot x in
     record { key = x; used = s .used; first = s .first; second = s .second; place = s .place }
 
-module _ {R : Rules} (n : Net R) (ok : Accepted n) (x : ℕ) (u : Undoable n x) where
+module _ {R : Rules} (lawful : Lawful R) (n : Net R) (ok : Accepted n) (x : ℕ) (u : Undoable n x) where
   abbrev n′ : Net R
   n′ = undo n x
 
@@ -88,11 +88,11 @@ module _ {R : Rules} (n : Net R) (ok : Accepted n) (x : ℕ) (u : Undoable n x) 
   done-again : done n′ (again n x) ≡ s
   done-again =
       same-slot (done n′ (again n x)) s (sym (past-kind (s .kind) (u .is-past)))
-      (body-kept n (only x) x (B.unmade n ok x u x (B.made-no-event n ok x u x (u .is-past)))) refl refl refl refl
+      (body-kept n (only x) x (B.unmade lawful n ok x u x (B.made-no-event lawful n ok x u x (u .is-past)))) refl refl refl refl
 
   -- and it meets the tuple that it met
   met-again : met n′ s ≡ met n s
-  met-again = B.stays n ok x u (s .used) (B.used-elsewhere n ok x u x (u .is-past))
+  met-again = B.stays lawful n ok x u (s .used) (B.used-elsewhere lawful n ok x u x (u .is-past))
 
   made-again : (k : ℕ) → makes n x k ≡ true → product x s (met n′ s .body) k ≡ n .slot k
   made-again k h =
@@ -102,10 +102,10 @@ module _ {R : Rules} (n : Net R) (ok : Accepted n) (x : ℕ) (u : Undoable n x) 
   -- the tuple that it took is consumed again
   eaten-again : (k : ℕ) → takes n x k ≡ true → makes n x k ≡ false → fresh consumed (n′ .slot k .body) ≡ n .slot k
   eaten-again k w h =
-      ap (fresh consumed) (body-kept n (only x) k (B.unmade n ok x u k h)) ∙
+      ap (fresh consumed) (body-kept n (only x) k (B.unmade lawful n ok x u k h)) ∙
       sym ((subst (λ (c : Kind). Formed c (n .slot k)) (take-consumed n ok x k w) (ok .formed k)) .0)
 
-  rest : (k : ℕ) → makes n x k ≡ false → (k ≡ x → ⊥) → takes n x k ≡ false → B.Way n ok x u k → n′ .slot k ≡ n .slot k
+  rest : (k : ℕ) → makes n x k ≡ false → (k ≡ x → ⊥) → takes n x k ≡ false → B.Way lawful n ok x u k → n′ .slot k ≡ n .slot k
   rest k h z w (B.made-free v q) = clash (makes n x k) v h
   rest k h z w (B.itself e q) = absurd (z e)
   rest k h z w (B.given-back v q) = clash (takes n x k) v w
@@ -118,7 +118,7 @@ module _ {R : Rules} (n : Net R) (ok : Accepted n) (x : ℕ) (u : Undoable n x) 
       cases (eqb k x) (λ e. rw (h, e) (ap (n .slot) (sym (eqb-true k x e))))
       (λ e.
       cases (takes n x k) (λ w. rw (h, e, w) (eaten-again k w h))
-      (λ w. rw (h, e, w) (rest k h (eqb-false k x e) w (B.way n ok x u k)))))
+      (λ w. rw (h, e, w) (rest k h (eqb-false k x e) w (B.way lawful n ok x u k)))))
 
   slot-again : (k : ℕ) → forward n′ (again n x) .slot k ≡ n .slot k
   unfolding forward
@@ -127,7 +127,7 @@ module _ {R : Rules} (n : Net R) (ok : Accepted n) (x : ℕ) (u : Undoable n x) 
   present-again : (l : ℕ) → forward n′ (again n x) .present l ≡ n .present l
   unfolding forward
   present-again l =
-      ap₂ (λ (a : Bool) (d : Slot R). a || madeLocality l d) (B.present-is n ok x u l) done-again ∙
+      ap₂ (λ (a : Bool) (d : Slot R). a || madeLocality l d) (B.present-is lawful n ok x u l) done-again ∙
       cases (makesLocality n x l)
       (λ h.
       rw h
@@ -146,20 +146,20 @@ module _ {R : Rules} (n : Net R) (ok : Accepted n) (x : ℕ) (u : Undoable n x) 
   rule-again =
       rule-over n n′ s met-again
       (λ a.
-      B.present-still n ok x u (R .target (s .body)) (ok .agrees x (u .is-past) .rule .there a)
+      B.present-still lawful n ok x u (R .target (s .body)) (ok .agrees x (u .is-past) .rule .there a)
       (fails (makesLocality n x (R .target (s .body)))
       (λ h. clash (isNewloc (R .act (s .body))) (locality-act (R .target (s .body)) s h) (aims-stay (R .act (s .body)) a))))
       (ok .agrees x (u .is-past) .rule)
 
   tuple-again : uses (R .act (s .body)) ≡ true → n′ .slot (s .used) .kind ≡ tuple
-  tuple-again h = each (B.way n ok x u (s .used))
+  tuple-again h = each (B.way lawful n ok x u (s .used))
     where
       -- it was live as a tuple, or is so again
       was : met n s .kind ≡ tuple
       was = ok .agrees x (u .is-past) .rule .meets h
 
-      each : B.Way n ok x u (s .used) → n′ .slot (s .used) .kind ≡ tuple
-      each (B.made-free v q) = clash (makes n x (s .used)) v (B.used-elsewhere n ok x u x (u .is-past))
+      each : B.Way lawful n ok x u (s .used) → n′ .slot (s .used) .kind ≡ tuple
+      each (B.made-free v q) = clash (makes n x (s .used)) v (B.used-elsewhere lawful n ok x u x (u .is-past))
       each (B.itself e q) = kind-eq q ∙ was
       each (B.given-back v q) = kind-eq q ∙ was
       each (B.untouched v e w q) =
@@ -170,38 +170,38 @@ module _ {R : Rules} (n : Net R) (ok : Accepted n) (x : ℕ) (u : Undoable n x) 
   pub again-can : Can n′ (again n x)
   again-can =
       record {
-        is-live = live-self (B.way n ok x u x);
+        is-live = live-self (B.way lawful n ok x u x);
         rule = rw done-again rule-again;
         tuple-live = λ h. tuple-again (ap (λ (d : Slot R). uses (R .act (d .body))) (sym done-again) ∙ h);
         fresh-keys = λ k h. kind-eq (freed k (ap (madeKey k) (sym done-again) ∙ h));
         fresh-place = λ h. absent (ap (λ (d : Slot R). isNewloc (R .act (d .body))) (sym done-again) ∙ h);
       }
     where
-      live-self : B.Way n ok x u x → n′ .slot x .kind ≡ live
-      live-self (B.made-free h q) = clash (makes n x x) h (B.made-no-event n ok x u x (u .is-past))
+      live-self : B.Way lawful n ok x u x → n′ .slot x .kind ≡ live
+      live-self (B.made-free h q) = clash (makes n x x) h (B.made-no-event lawful n ok x u x (u .is-past))
       live-self (B.itself e q) = kind-eq (q ∙ forget-past s (past-kind (s .kind) (u .is-past)))
       live-self (B.given-back w q) = kind-eq (q ∙ forget-past s (past-kind (s .kind) (u .is-past)))
       live-self (B.untouched h z w q) = absurd (z refl)
 
       freed : (k : ℕ) → makes n x k ≡ true → n′ .slot k ≡ freeSlot
-      freed k h = B.slot-made n ok x u k h
+      freed k h = B.slot-made lawful n ok x u k h
 
       absent : isNewloc (R .act (s .body)) ≡ true → s .place ∉ n′ .present
-      absent h = B.present-is n ok x u (s .place) ∙ rw (locality-of s (u .is-past) h) (and-false (n .present (s .place)))
+      absent h = B.present-is lawful n ok x u (s .place) ∙ rw (locality-of s (u .is-past) h) (and-false (n .present (s .place)))
 
   pub redo : Forward n′ n
   redo = record { request = again n x; can = again-can; ends = sym undo-forward }
 
 -- ---- as relations of nets
 
-module _ {R : Rules} (n : Net R) (ok : Accepted n) where
+module _ {R : Rules} (lawful : Lawful R) (n : Net R) (ok : Accepted n) where
   pub loop-forward : (m : Net R) → Forward n m → Backward m n
   loop-forward m s =
       record {
         event = s .request .key;
-        can = rw (s .ends) (O.forward-undoable n ok (s .request) (s .can));
-        ends = sym (forward-undo n ok (s .request) (s .can)) ∙ ap (λ (a : Net R). undo a (s .request .key)) (sym (s .ends));
+        can = rw (s .ends) (O.forward-undoable lawful n ok (s .request) (s .can));
+        ends = sym (forward-undo lawful n ok (s .request) (s .can)) ∙ ap (λ (a : Net R). undo a (s .request .key)) (sym (s .ends));
       }
 
   pub loop-backward : (m : Net R) → Backward n m → Forward m n
-  loop-backward m s = rw (s .ends) (redo n ok (s .event) (s .can))
+  loop-backward m s = rw (s .ends) (redo lawful n ok (s .event) (s .can))

@@ -15,7 +15,7 @@ use borrow.Author.Tests.{eqb-true, eqb-false, eq-eqb, not-true}
 use Rattle.laws.specs.Choice.{cases, clash, and-left, and-right, or-left, or-right, or-cases, fails, agree}
 use Rattle.order.specs.KeySets.{_∈_, _∉_, empty, any-of, any-some, any-not}
 use Rattle.order.specs.Graphs.{acyclic-more}
-use Rattle.nets.specs.Rules.{Rules, none, uses, take-uses, read-uses, take-not-read}
+use Rattle.nets.specs.Rules.{Rules, Lawful, none, uses, take-uses, read-uses, take-not-read}
 use Rattle.nets.specs.Net.{isHeld, Cause, made-key, made-tuple, read-before, Kind, free, live, tuple, consumed, isFree, isPast, isConsumed, Slot, Net, freeSlot, fresh, forget, events, held, madeKey, tookTuple, readTuple, madeLocality, makes, takes, makesLocality, isMade, isMadeLocality, depends}
 use Rattle.nets.specs.Rule.{met, product}
 use Rattle.nets.specs.Forward.{Request, done, after, forward, Can}
@@ -24,7 +24,7 @@ use Rattle.nets.specs.Accepted.{Formed, Agrees, Root, Accepted}
 use Rattle.nets.specs.Records.{kind-eq, body-eq, live-not-past, live-not-consumed, forget-body, forget-free, forget-live, OfEvents, made-past, made-below, took-past, took-act, took-is, read-act, read-is, locality-past, locality-is, locality-act, locality-makeable, Made, continuation, the-tuple, the-process, made-way, made-live-kind, rule-over, agrees-over}
 use Rattle.nets.specs.Events.{depends-cause, cause-past, held-below, event-below, event-held, take-consumed, read-tuple, take-or-read, made-held, last-undoable}
 
-module _ {R : Rules} (n : Net R) (ok : Accepted n) (r : Request) (can : Can n r) where
+module _ {R : Rules} (lawful : Lawful R) (n : Net R) (ok : Accepted n) (r : Request) (can : Can n r) where
   abbrev m : Net R
   m = forward n r
 
@@ -257,11 +257,11 @@ module _ {R : Rules} (n : Net R) (ok : Accepted n) (r : Request) (can : Can n r)
       each (continuation z q) =
           rw q (
             refl,
-            R .next-process x (d .body) t (d .place) x-below process (can .rule .acting) (can .rule .ready)
+            lawful .next-process x (d .body) t (d .place) x-below process (can .rule .acting) (can .rule .ready)
                 (λ u. (tuple-met u, can .rule .fits u)) (can .rule .places .place),
           )
-      each (the-tuple z c q) = rw q (refl, R .second-tuple (d .body) process (can .rule .ready) c)
-      each (the-process z c q) = rw q (refl, R .second-process (d .body) process (can .rule .ready) c)
+      each (the-tuple z c q) = rw q (refl, lawful .second-tuple (d .body) process (can .rule .ready) c)
+      each (the-process z c q) = rw q (refl, lawful .second-process (d .body) process (can .rule .ready) c)
 
   pub present-new : (l : ℕ) → m .present l ≡ (n .present l || madeLocality l d)
   unfolding forward

@@ -14,7 +14,7 @@ use borrow.Author.Tests.{eqb-true, eq-eqb}
 use Rattle.laws.specs.Choice.{cases, clash, or-left, or-right, or-cases, fails}
 use Rattle.order.specs.KeySets.{_∈_, any-of, any-some}
 use Rattle.order.specs.Graphs.{Reach, here, reach-more, induction, last-reach, founded-reach, among-founded}
-use Rattle.nets.specs.Rules.{Rules, uses, aims, isNewloc, isSplit, newloc-alone}
+use Rattle.nets.specs.Rules.{Rules, Lawful, uses, aims, isNewloc, isSplit, newloc-alone}
 use Rattle.nets.specs.Net.{made-key, made-tuple, Kind, isFree, Slot, Net, events, held, makes, makesLocality, isMade, depends, MadeAfter}
 use Rattle.nets.specs.Rule.{met, product}
 use Rattle.nets.specs.Undo.{Undoable}
@@ -96,45 +96,46 @@ module _ (R : Rules) where
   abbrev pub concerns : ℕ → R .Body → Bool
   concerns l b = R .names b l || eqb (R .at b) l
 
-  -- what targets a locality that needs a maker names it
-  pub target-concerns : (l : ℕ) (b : R .Body) → l ∈ R .makeable → aims (R .act b) ≡ true → R .target b ≡ l → concerns l b ≡ true
-  target-concerns l b m a e =
-      or-left (R .names b l) _ (ap (R .names b) (sym e) ∙ R .target-names b a (ap (R .makeable) e ∙ m))
-
   lives-concerns : (l : ℕ) (b : R .Body) → R .at b ≡ l → concerns l b ≡ true
   lives-concerns l b e = or-right (R .names b l) (eqb (R .at b) l) (eq-eqb (R .at b) l e)
 
+module _ {R : Rules} (lawful : Lawful R) where
+  -- what targets a locality that needs a maker names it
+  pub target-concerns : (l : ℕ) (b : R .Body) → l ∈ R .makeable → aims (R .act b) ≡ true → R .target b ≡ l → concerns R l b ≡ true
+  target-concerns l b m a e =
+      or-left (R .names b l) _ (ap (R .names b) (sym e) ∙ lawful .target-names b a (ap (R .makeable) e ∙ m))
+
   -- a record that nobody made has nothing to do with it
-  root-concerns : (l : ℕ) → l ∈ R .makeable → (b : R .Body) → R .rooted b ≡ true → concerns l b ≡ false
+  root-concerns : (l : ℕ) → l ∈ R .makeable → (b : R .Body) → R .rooted b ≡ true → concerns R l b ≡ false
   root-concerns l m b h =
-      fails (concerns l b)
+      fails (concerns R l b)
       (λ c.
-      or-cases (R .names b l) (eqb (R .at b) l) c (λ q. clash (R .makeable l) m (R .rooted-names b l h q))
-      (λ q. clash (R .makeable l) m (ap (R .makeable) (sym (eqb-true (R .at b) l q)) ∙ R .rooted-at b h)))
+      or-cases (R .names b l) (eqb (R .at b) l) c (λ q. clash (R .makeable l) m (lawful .rooted-names b l h q))
+      (λ q. clash (R .makeable l) m (ap (R .makeable) (sym (eqb-true (R .at b) l q)) ∙ lawful .rooted-at b h)))
 
   -- a continuation has to do with it through its process, through the tuple met, or by the newloc that made it
-  next-concerns : (l : ℕ) → l ∈ R .makeable → (k : ℕ) (b t : R .Body) (p : ℕ) → concerns l (R .next k b t p) ≡ true
-      → (concerns l b ≡ true) ⊎ (((uses (R .act b) ≡ true) × (concerns l t ≡ true)) ⊎ ((isNewloc (R .act b) ≡ true) × (p ≡ l)))
+  next-concerns : (l : ℕ) → l ∈ R .makeable → (k : ℕ) (b t : R .Body) (p : ℕ) → concerns R l (R .next k b t p) ≡ true
+      → (concerns R l b ≡ true) ⊎ (((uses (R .act b) ≡ true) × (concerns R l t ≡ true)) ⊎ ((isNewloc (R .act b) ≡ true) × (p ≡ l)))
   next-concerns l m k b t p c =
-      or-cases (R .names (R .next k b t p) l) (eqb (R .at (R .next k b t p)) l) c (λ q. named (R .next-names k b t p l m q))
-      (λ q. inl (lives-concerns l b (sym (R .next-at k b t p) ∙ eqb-true (R .at (R .next k b t p)) l q)))
+      or-cases (R .names (R .next k b t p) l) (eqb (R .at (R .next k b t p)) l) c (λ q. named (lawful .next-names k b t p l m q))
+      (λ q. inl (lives-concerns R l b (sym (lawful .next-at k b t p) ∙ eqb-true (R .at (R .next k b t p)) l q)))
     where
       named : (R .names b l ≡ true) ⊎ (((uses (R .act b) ≡ true) × (R .names t l ≡ true)) ⊎ ((isNewloc (R .act b) ≡ true) × (p ≡ l)))
-          → (concerns l b ≡ true) ⊎ (((uses (R .act b) ≡ true) × (concerns l t ≡ true)) ⊎ ((isNewloc (R .act b) ≡ true) × (p ≡ l)))
+          → (concerns R l b ≡ true) ⊎ (((uses (R .act b) ≡ true) × (concerns R l t ≡ true)) ⊎ ((isNewloc (R .act b) ≡ true) × (p ≡ l)))
       named (inl q) = inl (or-left (R .names b l) _ q)
       named (inr (inl (u, q))) = inr (inl (u, or-left (R .names t l) _ q))
       named (inr (inr w)) = inr (inr w)
 
   -- what is made besides, through its process alone
-  second-concerns : (l : ℕ) → l ∈ R .makeable → (b : R .Body) → concerns l (R .second b) ≡ true → concerns l b ≡ true
+  second-concerns : (l : ℕ) → l ∈ R .makeable → (b : R .Body) → concerns R l (R .second b) ≡ true → concerns R l b ≡ true
   second-concerns l m b c =
       or-cases (R .names (R .second b) l) (eqb (R .at (R .second b)) l) c
-      (λ q. or-left (R .names b l) _ (R .second-names b l m q))
-      (λ q. lives (eqb-true (R .at (R .second b)) l q) (R .second-at b))
+      (λ q. or-left (R .names b l) _ (lawful .second-names b l m q))
+      (λ q. lives (eqb-true (R .at (R .second b)) l q) (lawful .second-at b))
     where
       lives : R .at (R .second b) ≡ l
-          → (R .at (R .second b) ≡ R .at b) ⊎ ((aims (R .act b) ≡ true) × (R .at (R .second b) ≡ R .target b)) → concerns l b ≡ true
-      lives e (inl q) = lives-concerns l b (sym q ∙ e)
+          → (R .at (R .second b) ≡ R .at b) ⊎ ((aims (R .act b) ≡ true) × (R .at (R .second b) ≡ R .target b)) → concerns R l b ≡ true
+      lives e (inl q) = lives-concerns R l b (sym q ∙ e)
       lives e (inr (a, q)) = target-concerns l b m a (sym q ∙ e)
 
 module _ {R : Rules} where
@@ -149,8 +150,9 @@ module _ {R : Rules} where
     pub no-split : isSplit (R .act (n .slot r .body)) ≡ false
     pub after : MadeAfter n r k
 
+module _ {R : Rules} (lawful : Lawful R) where
   concerns-carried : (n : Net R) (l : ℕ) → l ∈ R .makeable → Carried n (concerns R l) (λ x. makesLocality n x l ≡ true)
-  concerns-carried n l m = record { rooted = root-concerns R l m; next = onward; second = second-concerns R l m }
+  concerns-carried n l m = record { rooted = root-concerns lawful l m; next = onward; second = second-concerns lawful l m }
     where
       made : (f : ℕ) → f ∈ events n → isNewloc (R .act (n .slot f .body)) ≡ true → n .slot f .place ≡ l → makesLocality n f l ≡ true
       made f p w e = ap (λ (j : ℕ). makesLocality n f j) (sym e) ∙ locality-of (n .slot f) p w
@@ -159,7 +161,7 @@ module _ {R : Rules} where
           → (concerns R l (n .slot f .body) ≡ true) ⊎ (((uses (R .act (n .slot f .body)) ≡ true) × (concerns R l (met n (n .slot f) .body) ≡ true)) ⊎ (makesLocality n f l ≡ true))
       onward f p c =
           ⊎-elim (λ q. inl q) (λ q. inr (⊎-elim (λ w. inl w) (λ w. inr (made f p (w .0) (w .1))) q))
-          (next-concerns R l m f (n .slot f .body) (met n (n .slot f) .body) (n .slot f .place) c)
+          (next-concerns lawful l m f (n .slot f .body) (met n (n .slot f) .body) (n .slot f .place) c)
 
   module _ (n : Net R) (ok : Accepted n) where
     -- every locality that needs a maker and that a record lives at or names has one, and is present
@@ -216,7 +218,7 @@ module _ {R : Rules} where
             by-product (continuation w q) =
                 itself-not
                 (lives-concerns R l (n .slot x .body)
-                (sym (R .next-at x (n .slot x .body) (met n (n .slot x) .body) (n .slot x .place)) ∙
+                (sym (lawful .next-at x (n .slot x .body) (met n (n .slot x) .body) (n .slot x .place)) ∙
                 ap (λ (s : Slot R). R .at (s .body)) (sym q ∙ sym (made-there n ok x k mx)) ∙ ap (R .at) (forget-body (n .slot k)) ∙ e))
             by-product (the-tuple w c q) = ok .agrees x past .rule .places .apart (sym z ∙ w)
             by-product (the-process w c q) = ok .agrees x past .rule .places .apart (sym z ∙ w)
@@ -235,11 +237,11 @@ module _ {R : Rules} where
     refers-carried : (r : ℕ) → Carried n (λ b. R .refers b r) (λ x. (isSplit (R .act (n .slot x .body)) ≡ false) × (x ≡ r))
     refers-carried r =
         record {
-          rooted = λ b h. R .rooted-refers b r h;
+          rooted = λ b h. lawful .rooted-refers b r h;
           next = λ f p h.
               ⊎-elim (λ q. inl q) (λ q. inr (inr q))
-              (R .next-refers f (n .slot f .body) (met n (n .slot f) .body) (n .slot f .place) r h);
-          second = λ b h. R .second-refers b r h;
+              (lawful .next-refers f (n .slot f .body) (met n (n .slot f) .body) (n .slot f .place) r h);
+          second = λ b h. lawful .second-refers b r h;
         }
 
     pub reference-from : (k r : ℕ) → k ∈ held n → R .refers (n .slot k .body) r ≡ true → Reference n k r

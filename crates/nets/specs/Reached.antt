@@ -8,7 +8,7 @@ use Prim.Native.Nat.{ℕ}
 use Rattle.order.specs.KeySets.{_∉_}
 use Rattle.order.specs.Replay.{Redoing}
 use Rattle.order.specs.Replay as P
-use Rattle.nets.specs.Rules.{Rules}
+use Rattle.nets.specs.Rules.{Rules, Lawful}
 use Rattle.nets.specs.Net.{Net, events}
 use Rattle.nets.specs.Forward.{Forward, Forwards, start, more}
 use Rattle.nets.specs.Accepted.{Accepted}
@@ -23,30 +23,30 @@ pub record Reached {R : Rules} (n : Net R) : Type 0 where
   pub no-past : (x : ℕ) → x ∉ events from
   pub steps : Forwards from n
 
-module _ (R : Rules) where
-  abbrev pub redoing : Redoing (R .keys) (undoing R)
+module _ {R : Rules} (lawful : Lawful R) where
+  abbrev pub redoing : Redoing (R .keys) (undoing lawful)
   redoing =
       record {
         Forward = Forward;
-        forward-accepted = λ n m ok s. rw (s .ends) (forward-accepted n ok (s .request) (s .can));
-        redo = λ n x ok u. redo n ok x u;
+        forward-accepted = λ n m ok s. rw (s .ends) (forward-accepted lawful n ok (s .request) (s .can));
+        redo = λ n x ok u. redo lawful n ok x u;
       }
 
-module _ {R : Rules} where
-  forwards-there : {n m : Net R} → Forwards n m → P.Forwards (R .keys) (undoing R) (redoing R) n m
+module _ {R : Rules} (lawful : Lawful R) where
+  forwards-there : {n m : Net R} → Forwards n m → P.Forwards (R .keys) (undoing lawful) (redoing lawful) n m
   forwards-there start = P.start
   forwards-there (more r s) = P.more (forwards-there r) s
 
-  forwards-back : {n m : Net R} → P.Forwards (R .keys) (undoing R) (redoing R) n m → Forwards n m
+  forwards-back : {n m : Net R} → P.Forwards (R .keys) (undoing lawful) (redoing lawful) n m → Forwards n m
   forwards-back P.start = start
   forwards-back (P.more r s) = more (forwards-back r) s
 
   pub accepted-iff : (n : Net R) → Accepted n ↔ Reached n
   accepted-iff n = (
     λ ok.
-        let o = P.accepted-iff (R .keys) (undoing R) (redoing R) n .0 ok in
+        let o = P.accepted-iff (R .keys) (undoing lawful) (redoing lawful) n .0 ok in
         record { from = o .from; accepted = o .accepted; no-past = o .no-past; steps = forwards-back (o .forwards) },
     λ r.
-        P.accepted-iff (R .keys) (undoing R) (redoing R) n .1
+        P.accepted-iff (R .keys) (undoing lawful) (redoing lawful) n .1
         (record { from = r .from; accepted = r .accepted; no-past = r .no-past; forwards = forwards-there (r .steps) }),
   )

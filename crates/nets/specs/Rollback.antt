@@ -1,8 +1,8 @@
 -- Rollback: the laws of undoing hold of accepted nets, so that any order of single backward steps is one rollback; and how many it undoes.
 --
--- In order: a set whose members each have an own member of another (`count-inject`); the laws (`undoing`, in the words of `order`); steps
--- in a row, in those words and back (`steps-there`, `steps-back`); acceptance along backward steps (`undoes-accepted`); demand 3 of an
--- event (`AnyOrder`, `any-order`); a rollback keeps acceptance (`rollback-accepted`) and frees what dependents made (`rollback-frees`);
+-- In order: a set whose members each have an own member of another (`count-inject`); the laws (`undoing`, in the words of `order`); demand 3
+-- of an event (`AnyOrder`); steps in a row, in those words and back (`steps-there`, `steps-back`); acceptance along backward steps
+-- (`undoes-accepted`); demand 3, proved (`any-order`); a rollback keeps acceptance (`rollback-accepted`) and frees what dependents made (`rollback-frees`);
 -- some key is no event (`not-all-past`), each event makes a key that no other makes, so undone is below the number of keys
 -- (`undone-below`) and at most the number of made keys (`undone-made`).
 -- Assumes nothing.
@@ -19,7 +19,7 @@ use Rattle.order.specs.Graphs.{last-from, among-closed}
 use Rattle.order.specs.Dependents.{dependents-iff, dependents-inside}
 use Rattle.order.specs.Undoing.{Undoing}
 use Rattle.order.specs.Undoing as U
-use Rattle.nets.specs.Rules.{Rules}
+use Rattle.nets.specs.Rules.{Rules, Lawful}
 use Rattle.nets.specs.Net.{Net, freeSlot, events, makes, isMade, depends, dependents, MadeAfter}
 use Rattle.nets.specs.Undo.{madeBy, undoSet, undo, rollback, undone, touched, Undoable, Undoes, stay, back, UndoesAll, touchedBy}
 use Rattle.nets.specs.Accepted.{Accepted}
@@ -50,13 +50,13 @@ count-inject (suc k) n S T f there apart =
 
 -- ---- the laws
 
-module _ {R : Rules} (n : Net R) (ok : Accepted n) (x : ℕ) (u : Undoable n x) where
+module _ {R : Rules} (lawful : Lawful R) (n : Net R) (ok : Accepted n) (x : ℕ) (u : Undoable n x) where
   -- an event that may be undone made no event
   pub only-whole : Whole n (only x)
   only-whole e f m h p =
-      clash (makes n x f) (ap (λ (j : ℕ). makes n j f) (sym (eqb-true e x m)) ∙ h) (made-no-event n ok x u f p)
+      clash (makes n x f) (ap (λ (j : ℕ). makes n j f) (sym (eqb-true e x m)) ∙ h) (made-no-event lawful n ok x u f p)
 
-module _ (R : Rules) where
+module _ {R : Rules} (lawful : Lawful R) where
   abbrev pub undoing : Undoing (R .keys)
   undoing =
       record {
@@ -70,35 +70,16 @@ module _ (R : Rules) where
         among = among;
         no-cycle = λ n ok. ok .no-cycle;
         undoable-iff = λ n x ok. (undoable-last n ok x, last-undoable n ok x);
-        undo-accepted = λ n x ok u. undo-accepted n ok x u;
-        undo-events = λ n x ok u. undo-events n ok x u;
-        undo-depends = λ n x ok u. undo-depends n ok x u;
+        undo-accepted = λ n x ok u. undo-accepted lawful n ok x u;
+        undo-events = λ n x ok u. undo-events lawful n ok x u;
+        undo-depends = λ n x ok u. undo-depends lawful n ok x u;
         undo-none = undo-none;
-        undo-more = λ n x S ok u. undo-union n (only x) S (only-whole n ok x u);
+        undo-more = λ n x S ok u. undo-union n (only x) S (only-whole lawful n ok x u);
         touched-none = λ n. ap (touched n) (undo-none n) ∙ touched-none n;
-        touched-more = λ n x S ok u. touched-union n (only x) S (only-whole n ok x u);
+        touched-more = λ n x S ok u. touched-union n (only x) S (only-whole lawful n ok x u);
       }
 
 module _ {R : Rules} where
-  steps-there : {n m : Net R} {ks : List ℕ} → Undoes n ks m → U.Undoes (R .keys) (undoing R) n ks m
-  steps-there stay = U.stay
-  steps-there (back u r) = U.back u (steps-there r)
-
-  steps-back : {n m : Net R} {ks : List ℕ} → U.Undoes (R .keys) (undoing R) n ks m → Undoes n ks m
-  steps-back U.stay = stay
-  steps-back (U.back u r) = back u (steps-back r)
-
-  all-there : {n m : Net R} {D : Set} {ks : List ℕ} → UndoesAll n D ks m → U.UndoesAll (R .keys) (undoing R) n D ks m
-  all-there w = record { undoes = steps-there (w .undoes); inside = w .inside; none = w .none }
-
-  touched-there : (n : Net R) (ks : List ℕ) → touchedBy n ks ≡ U.touchedBy (R .keys) (undoing R) n ks
-  unfolding touchedBy U.touchedBy
-  touched-there n [] = refl
-  touched-there n (x ∷ ks) = ap (λ (T : Set). touched n (undo n x) ∪ T) (touched-there (undo n x) ks)
-
-  pub undoes-accepted : {n m : Net R} {ks : List ℕ} → Accepted n → Undoes n ks m → Accepted m
-  undoes-accepted ok r = U.undoes-accepted (R .keys) (undoing R) ok (steps-there r)
-
   -- ---- demand 3
 
   -- "Undo the steps that depend on it, itself included, by single backward steps, choosing any allowed one each time."
@@ -116,9 +97,29 @@ module _ {R : Rules} where
     -- "No list of backward steps alone that undoes the action can leave out any of them."
     pub none-left-out : (ks : List ℕ) (m : Net R) → Undoes n ks m → e ∈ members ks → dependents n e ⊆ members ks
 
+module _ {R : Rules} (lawful : Lawful R) where
+  steps-there : {n m : Net R} {ks : List ℕ} → Undoes n ks m → U.Undoes (R .keys) (undoing lawful) n ks m
+  steps-there stay = U.stay
+  steps-there (back u r) = U.back u (steps-there r)
+
+  steps-back : {n m : Net R} {ks : List ℕ} → U.Undoes (R .keys) (undoing lawful) n ks m → Undoes n ks m
+  steps-back U.stay = stay
+  steps-back (U.back u r) = back u (steps-back r)
+
+  all-there : {n m : Net R} {D : Set} {ks : List ℕ} → UndoesAll n D ks m → U.UndoesAll (R .keys) (undoing lawful) n D ks m
+  all-there w = record { undoes = steps-there (w .undoes); inside = w .inside; none = w .none }
+
+  touched-there : (n : Net R) (ks : List ℕ) → touchedBy n ks ≡ U.touchedBy (R .keys) (undoing lawful) n ks
+  unfolding touchedBy U.touchedBy
+  touched-there n [] = refl
+  touched-there n (x ∷ ks) = ap (λ (T : Set). touched n (undo n x) ∪ T) (touched-there (undo n x) ks)
+
+  pub undoes-accepted : {n m : Net R} {ks : List ℕ} → Accepted n → Undoes n ks m → Accepted m
+  undoes-accepted ok r = U.undoes-accepted (R .keys) (undoing lawful) ok (steps-there r)
+
   pub any-order : (n : Net R) → Accepted n → (e : ℕ) → e ∈ events n → AnyOrder n e
   any-order n ok e p =
-      let o = U.any-order (R .keys) (undoing R) n ok e p in
+      let o = U.any-order (R .keys) (undoing lawful) n ok e p in
       record {
         never-sticks = λ ks m r. o .never-sticks ks m (steps-there r);
         possible = let (ks, m, w) = o .possible in (ks, m, record { undoes = steps-back (w .undoes); inside = w .inside; none = w .none });

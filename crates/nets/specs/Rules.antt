@@ -1,8 +1,9 @@
--- What nets must know of a script: what a record's contents say, what a rule makes, and the small laws that these obey. Which scripts there
--- are, how a field is evaluated and a template matched is not said here: everything above is over any `Rules`.
+-- What nets must know of a script: what a record's contents say and what a rule makes (`Rules`), and the small laws that these obey where
+-- the script has its form (`Lawful`). Which scripts there are, how a field is evaluated and a template matched is not said here: definitions
+-- above are over any `Rules`, theorems over lawful ones.
 --
--- In order: `none`; the kinds of nodes (`Act`), their numbers and what each kind needs (`acts`, `aims`, `uses`, `secondOf`); `Rules`; what
--- the kinds have to do with each other (`take-uses`, `read-uses`, `take-not-read`, `newloc-alone`, `aims-stay`).
+-- In order: `none`; the kinds of nodes (`Act`), their numbers and what each kind needs (`acts`, `aims`, `uses`, `secondOf`); `Rules`; `Lawful`;
+-- what the kinds have to do with each other (`take-uses`, `read-uses`, `take-not-read`, `newloc-alone`, `aims-stay`).
 -- Assumes nothing.
 use mathlib.Core.Path.{_≡_, refl}
 use mathlib.Core.Logic.{_⊎_}
@@ -108,28 +109,31 @@ pub record Rules : Type 1 where
   -- the localities that the contents name, and the keys that their references hold
   pub names : Body → Set
   pub refers : Body → Set
+
+-- What the rules of a script that has its form obey.
+pub record Lawful (R : Rules) : Type 0 where
   -- What is made has its form.
-  pub next-process : (k : ℕ) (b t : Body) (l : ℕ) → k < keys → isProcess b ≡ true → acts (act b) ≡ true → ready b ≡ true
-      → (uses (act b) ≡ true → (isTuple t ≡ true) × (fits b t ≡ true)) → (isNewloc (act b) ≡ true → makeable l ≡ true)
-      → isProcess (next k b t l) ≡ true
-  pub second-tuple : (b : Body) → isProcess b ≡ true → ready b ≡ true → secondOf (act b) ≡ aTuple → isTuple (second b) ≡ true
-  pub second-process : (b : Body) → isProcess b ≡ true → ready b ≡ true → secondOf (act b) ≡ aProcess → isProcess (second b) ≡ true
+  pub next-process : (k : ℕ) (b t : R .Body) (l : ℕ) → k < R .keys → R .isProcess b ≡ true → acts (R .act b) ≡ true → R .ready b ≡ true
+      → (uses (R .act b) ≡ true → (R .isTuple t ≡ true) × (R .fits b t ≡ true)) → (isNewloc (R .act b) ≡ true → R .makeable l ≡ true)
+      → R .isProcess (R .next k b t l) ≡ true
+  pub second-tuple : (b : R .Body) → R .isProcess b ≡ true → R .ready b ≡ true → secondOf (R .act b) ≡ aTuple → R .isTuple (R .second b) ≡ true
+  pub second-process : (b : R .Body) → R .isProcess b ≡ true → R .ready b ≡ true → secondOf (R .act b) ≡ aProcess → R .isProcess (R .second b) ≡ true
   -- The continuation is at the same locality, what is made besides at the same or at the target.
-  pub next-at : (k : ℕ) (b t : Body) (l : ℕ) → at (next k b t l) ≡ at b
-  pub second-at : (b : Body) → (at (second b) ≡ at b) ⊎ ((aims (act b) ≡ true) × (at (second b) ≡ target b))
+  pub next-at : (k : ℕ) (b t : R .Body) (l : ℕ) → R .at (R .next k b t l) ≡ R .at b
+  pub second-at : (b : R .Body) → (R .at (R .second b) ≡ R .at b) ⊎ ((aims (R .act b) ≡ true) × (R .at (R .second b) ≡ R .target b))
   -- A locality that needs a maker comes into contents from the process, from the tuple met, or by newloc; a target that needs a maker is
   -- named by a variable.
-  pub rooted-at : (b : Body) → rooted b ≡ true → makeable (at b) ≡ false
-  pub rooted-names : (b : Body) (m : ℕ) → rooted b ≡ true → names b m ≡ true → makeable m ≡ false
-  pub target-names : (b : Body) → aims (act b) ≡ true → makeable (target b) ≡ true → names b (target b) ≡ true
-  pub next-names : (k : ℕ) (b t : Body) (l m : ℕ) → makeable m ≡ true → names (next k b t l) m ≡ true
-      → (names b m ≡ true) ⊎ (((uses (act b) ≡ true) × (names t m ≡ true)) ⊎ ((isNewloc (act b) ≡ true) × (l ≡ m)))
-  pub second-names : (b : Body) (m : ℕ) → makeable m ≡ true → names (second b) m ≡ true → names b m ≡ true
+  pub rooted-at : (b : R .Body) → R .rooted b ≡ true → R .makeable (R .at b) ≡ false
+  pub rooted-names : (b : R .Body) (m : ℕ) → R .rooted b ≡ true → R .names b m ≡ true → R .makeable m ≡ false
+  pub target-names : (b : R .Body) → aims (R .act b) ≡ true → R .makeable (R .target b) ≡ true → R .names b (R .target b) ≡ true
+  pub next-names : (k : ℕ) (b t : R .Body) (l m : ℕ) → R .makeable m ≡ true → R .names (R .next k b t l) m ≡ true
+      → (R .names b m ≡ true) ⊎ (((uses (R .act b) ≡ true) × (R .names t m ≡ true)) ⊎ ((isNewloc (R .act b) ≡ true) × (l ≡ m)))
+  pub second-names : (b : R .Body) (m : ℕ) → R .makeable m ≡ true → R .names (R .second b) m ≡ true → R .names b m ≡ true
   -- "the node's reference, if any, takes the old key": in the continuation alone, and a split has no reference.
-  pub rooted-refers : (b : Body) (r : ℕ) → rooted b ≡ true → refers b r ≡ false
-  pub next-refers : (k : ℕ) (b t : Body) (l r : ℕ) → refers (next k b t l) r ≡ true
-      → (refers b r ≡ true) ⊎ ((isSplit (act b) ≡ false) × (k ≡ r))
-  pub second-refers : (b : Body) (r : ℕ) → refers (second b) r ≡ true → refers b r ≡ true
+  pub rooted-refers : (b : R .Body) (r : ℕ) → R .rooted b ≡ true → R .refers b r ≡ false
+  pub next-refers : (k : ℕ) (b t : R .Body) (l r : ℕ) → R .refers (R .next k b t l) r ≡ true
+      → (R .refers b r ≡ true) ⊎ ((isSplit (R .act b) ≡ false) × (k ≡ r))
+  pub second-refers : (b : R .Body) (r : ℕ) → R .refers (R .second b) r ≡ true → R .refers b r ≡ true
 
 -- ---- what the kinds have to do with each other
 

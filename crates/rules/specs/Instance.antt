@@ -1,4 +1,5 @@
--- The rules of a script, as the theory of nets asks for them: what that theory proves of any rules it proves of every script in range.
+-- The rules of a script, as the theory of nets asks for them (`rulesOf`), and that those of a script in range are lawful (`lawfulOf`): what
+-- that theory proves of lawful rules it proves of every script in range.
 -- Assumes nothing.
 use Prim.Native.Nat.{ℕ, zero, suc, _+_, _<_, _≤_}
 use mathlib.Core.Path.{_≡_, refl, ap, ap₂, sym, _∙_, subst}
@@ -14,7 +15,7 @@ use Rattle.images.specs.Script.{scriptInRange}
 use Rattle.images.specs.Net.{datum0}
 use Rattle.images.specs.Shape.{ShapedScript}
 use Rattle.images.specs.declared.Script.{Script}
-use Rattle.nets.specs.Rules.{Rules, Act, number, isTake, isRead, isNewloc, isSplit, acts, uses, aims, Second, secondOf}
+use Rattle.nets.specs.Rules.{Rules, Lawful, Act, number, isTake, isRead, isNewloc, isSplit, acts, uses, aims, Second, secondOf}
 use Rattle.nets.specs.Rules
 use Rattle.products.specs.Body.{Body, isProcess, isTuple}
 use Rattle.products.specs.Products
@@ -132,64 +133,14 @@ eval-aims : (k : ℕ) → Products.isEval k ≡ true → aims (actOf k) ≡ true
 eval-aims k h =
     or-right (uses (actOf k)) _ (or-right (eqb (number (actOf k)) 1) _ (same-kind k 5 (omega arith) (omega arith) ∙ h))
 
-module _ (s : Script) (w : ShapedScript s) (range : scriptInRange s ≡ true) where
+-- ---- the rules of a script, whatever it is
+
+module _ (s : Script) where
   abbrev pub act : Body → Act
   act b = actOf (kindOf s b)
 
   abbrev pub next : ℕ → Body → Body → ℕ → Body
   next k b t l = continuation s (key k) b t (locality l)
-
-  pub next-process : (k : ℕ) (b t : Body) (l : ℕ) → k < keyCount → isProcess b ≡ true → acts (act b) ≡ true → isReady s b ≡ true → (uses (act b) ≡ true → (isTuple t ≡ true) × (fits s b t ≡ true)) → (isNewloc (act b) ≡ true → makeable l ≡ true) → isProcess (next k b t l) ≡ true
-  next-process k b t l h good step ready met made =
-      continuation-process s w range b good (is-step (kindOf s b) step) (key k) t (locality l) h
-      (λ u. met (uses-is (kindOf s b) ∙ u) .0)
-      (λ u. ltb-true l 32 (and-right (leb 8 l) _ (made (same-kind (kindOf s b) 4 (omega arith) (omega arith) ∙ u))))
-
-  pub second-at : (b : Body) → (secondMade s b .locality .0 ≡ b .locality .0) ⊎ ((aims (act b) ≡ true) × (secondMade s b .locality .0 ≡ target s b))
-  unfolding secondMade tupleMade processMade
-  second-at b =
-      let k = kindOf s b in
-      cases (Products.isOut k)
-      (λ t. inr (out-aims k t, rw t))
-      (λ t. cases (Products.isEval k) (λ u. inr (eval-aims k u, rw (t, u))) (λ u. inl (rw (t, u))))
-
-  pub target-names : (b : Body) → aims (act b) ≡ true → makeable (target s b) ≡ true → names b (target s b) ≡ true
-  target-names b _ m = target-named s w range b (leb-true 8 (target s b) (and-left (leb 8 (target s b)) _ m))
-
-  pub next-names : (k : ℕ) (b t : Body) (l m : ℕ) → makeable m ≡ true → names (next k b t l) m ≡ true → (names b m ≡ true) ⊎ (((uses (act b) ≡ true) × (names t m ≡ true)) ⊎ ((isNewloc (act b) ≡ true) × (l ≡ m)))
-  next-names k b t l m _ h =
-      ⊎-elim (λ (p : names b m ≡ true). inl p)
-      (λ (q : ((meetsTuple (kindOf s b) ≡ true) × (names t m ≡ true)) ⊎ ((Products.isNewloc (kindOf s b) ≡ true) × (l ≡ m))).
-      inr
-      (⊎-elim (λ (u : (meetsTuple (kindOf s b) ≡ true) × (names t m ≡ true)). inl (uses-is (kindOf s b) ∙ u .0, u .1))
-      (λ (u : (Products.isNewloc (kindOf s b) ≡ true) × (l ≡ m)). inr (same-kind (kindOf s b) 4 (omega arith) (omega arith) ∙ u .0, u .1))
-      q))
-      (continuation-names s w range b (key k) t (locality l) m h)
-
-  pub next-refers : (k : ℕ) (b t : Body) (l r : ℕ) → refers (next k b t l) r ≡ true → (refers b r ≡ true) ⊎ ((isSplit (act b) ≡ false) × (k ≡ r))
-  next-refers k b t l r h =
-      ⊎-elim (λ (p : refers b r ≡ true). inl p)
-      (λ (q : (k ≡ r) × (Products.isSplit (kindOf s b) ≡ false)). inr (same-kind (kindOf s b) 6 (omega arith) (omega arith) ∙ q .1, q .0))
-      (continuation-refers s w range b (key k) t (locality l) r h)
-
-  pub next-at : (k : ℕ) (b t : Body) (l : ℕ) → next k b t l .locality .0 ≡ b .locality .0
-  unfolding continuation
-  next-at k b t l = refl
-
-  pub second-tuple : (b : Body) → isProcess b ≡ true → isReady s b ≡ true → secondOf (act b) ≡ Rules.aTuple → isTuple (secondMade s b) ≡ true
-  unfolding secondMade
-  second-tuple b good ready e =
-      let out = out-act (kindOf s b) e in
-      rw out (made-tuple s w range b good (out-step (kindOf s b) out) out ready)
-
-  pub second-process : (b : Body) → isProcess b ≡ true → isReady s b ≡ true → secondOf (act b) ≡ Rules.aProcess → isProcess (secondMade s b) ≡ true
-  unfolding secondMade
-  second-process b good ready e =
-      let (k, no-out) = process-act (kindOf s b) e in
-      rw no-out (made-process s w range b good (second-step (kindOf s b) k) k)
-
-  pub second-names-of : (b : Body) (m : ℕ) → makeable m ≡ true → names (secondMade s b) m ≡ true → names b m ≡ true
-  second-names-of b m u h = second-names s w range b m (leb-true 8 m (and-left (leb 8 m) _ u)) h
 
   abbrev pub rulesOf : Rules
   rulesOf =
@@ -211,6 +162,66 @@ module _ (s : Script) (w : ShapedScript s) (range : scriptInRange s ≡ true) wh
         rooted = rooted;
         names = names;
         refers = refers;
+      }
+
+-- ---- what they obey where the script is in range
+
+module _ (s : Script) (w : ShapedScript s) (range : scriptInRange s ≡ true) where
+  pub next-process : (k : ℕ) (b t : Body) (l : ℕ) → k < keyCount → isProcess b ≡ true → acts (act s b) ≡ true → isReady s b ≡ true → (uses (act s b) ≡ true → (isTuple t ≡ true) × (fits s b t ≡ true)) → (isNewloc (act s b) ≡ true → makeable l ≡ true) → isProcess (next s k b t l) ≡ true
+  next-process k b t l h good step ready met made =
+      continuation-process s w range b good (is-step (kindOf s b) step) (key k) t (locality l) h
+      (λ u. met (uses-is (kindOf s b) ∙ u) .0)
+      (λ u. ltb-true l 32 (and-right (leb 8 l) _ (made (same-kind (kindOf s b) 4 (omega arith) (omega arith) ∙ u))))
+
+  pub second-at : (b : Body) → (secondMade s b .locality .0 ≡ b .locality .0) ⊎ ((aims (act s b) ≡ true) × (secondMade s b .locality .0 ≡ target s b))
+  unfolding secondMade tupleMade processMade
+  second-at b =
+      let k = kindOf s b in
+      cases (Products.isOut k)
+      (λ t. inr (out-aims k t, rw t))
+      (λ t. cases (Products.isEval k) (λ u. inr (eval-aims k u, rw (t, u))) (λ u. inl (rw (t, u))))
+
+  pub target-names : (b : Body) → aims (act s b) ≡ true → makeable (target s b) ≡ true → names b (target s b) ≡ true
+  target-names b _ m = target-named s w range b (leb-true 8 (target s b) (and-left (leb 8 (target s b)) _ m))
+
+  pub next-names : (k : ℕ) (b t : Body) (l m : ℕ) → makeable m ≡ true → names (next s k b t l) m ≡ true → (names b m ≡ true) ⊎ (((uses (act s b) ≡ true) × (names t m ≡ true)) ⊎ ((isNewloc (act s b) ≡ true) × (l ≡ m)))
+  next-names k b t l m _ h =
+      ⊎-elim (λ (p : names b m ≡ true). inl p)
+      (λ (q : ((meetsTuple (kindOf s b) ≡ true) × (names t m ≡ true)) ⊎ ((Products.isNewloc (kindOf s b) ≡ true) × (l ≡ m))).
+      inr
+      (⊎-elim (λ (u : (meetsTuple (kindOf s b) ≡ true) × (names t m ≡ true)). inl (uses-is (kindOf s b) ∙ u .0, u .1))
+      (λ (u : (Products.isNewloc (kindOf s b) ≡ true) × (l ≡ m)). inr (same-kind (kindOf s b) 4 (omega arith) (omega arith) ∙ u .0, u .1))
+      q))
+      (continuation-names s w range b (key k) t (locality l) m h)
+
+  pub next-refers : (k : ℕ) (b t : Body) (l r : ℕ) → refers (next s k b t l) r ≡ true → (refers b r ≡ true) ⊎ ((isSplit (act s b) ≡ false) × (k ≡ r))
+  next-refers k b t l r h =
+      ⊎-elim (λ (p : refers b r ≡ true). inl p)
+      (λ (q : (k ≡ r) × (Products.isSplit (kindOf s b) ≡ false)). inr (same-kind (kindOf s b) 6 (omega arith) (omega arith) ∙ q .1, q .0))
+      (continuation-refers s w range b (key k) t (locality l) r h)
+
+  pub next-at : (k : ℕ) (b t : Body) (l : ℕ) → next s k b t l .locality .0 ≡ b .locality .0
+  unfolding continuation
+  next-at k b t l = refl
+
+  pub second-tuple : (b : Body) → isProcess b ≡ true → isReady s b ≡ true → secondOf (act s b) ≡ Rules.aTuple → isTuple (secondMade s b) ≡ true
+  unfolding secondMade
+  second-tuple b good ready e =
+      let out = out-act (kindOf s b) e in
+      rw out (made-tuple s w range b good (out-step (kindOf s b) out) out ready)
+
+  pub second-process : (b : Body) → isProcess b ≡ true → isReady s b ≡ true → secondOf (act s b) ≡ Rules.aProcess → isProcess (secondMade s b) ≡ true
+  unfolding secondMade
+  second-process b good ready e =
+      let (k, no-out) = process-act (kindOf s b) e in
+      rw no-out (made-process s w range b good (second-step (kindOf s b) k) k)
+
+  pub second-names-of : (b : Body) (m : ℕ) → makeable m ≡ true → names (secondMade s b) m ≡ true → names b m ≡ true
+  second-names-of b m u h = second-names s w range b m (leb-true 8 m (and-left (leb 8 m) _ u)) h
+
+  abbrev pub lawfulOf : Lawful (rulesOf s)
+  lawfulOf =
+      record {
         next-process = next-process;
         second-tuple = second-tuple;
         second-process = second-process;

@@ -14,8 +14,6 @@ use Rattle.names.specs.Names.{localityCount}
 use Rattle.names.specs.declared.Key.{Key}
 use Rattle.names.specs.declared.Locality.{Locality}
 use Rattle.names.specs.declared.Node.{Node}
-use Rattle.images.specs.Script.{scriptInRange}
-use Rattle.images.specs.Shape.{ShapedScript}
 use Rattle.images.specs.declared.Datum.{Datum}
 use Rattle.images.specs.declared.Script.{Script}
 use Rattle.nets.specs.Net.{Net}
@@ -106,10 +104,10 @@ same-body-iff a b = (body-says a b, λ e. ap (sameBody a) (sym e) ∙ body-holds
 
 -- ---- acceptance
 
-module _ (s : Script) (w : ShapedScript s) (range : scriptInRange s ≡ true) where
-  abbrev pub isAccepted : Net (rulesOf s w range) → Bool
+module _ (s : Script) where
+  abbrev pub isAccepted : Net (rulesOf s) → Bool
   isAccepted n = accepted sameBody localityCount n
 
-  pub accepted-is-tested : (n : Net (rulesOf s w range)) → Bounded n → (isAccepted n ≡ true) ↔ Accepted n
+  pub accepted-is-tested : (n : Net (rulesOf s)) → Bounded n → (isAccepted n ≡ true) ↔ Accepted n
   accepted-is-tested =
       accepted-iff-tested sameBody same-body-iff localityCount (λ l m. ltb-true l localityCount (and-right (leb 8 l) _ m))

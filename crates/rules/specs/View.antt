@@ -11,8 +11,6 @@ use Rattle.laws.specs.Choice.{pick}
 use Rattle.laws.specs.Sets.{member}
 use Rattle.names.specs.Names.{keyCount, localityCount}
 use Rattle.images.specs.Net as I
-use Rattle.images.specs.Shape.{ShapedScript}
-use Rattle.images.specs.Script.{scriptInRange}
 use Rattle.images.specs.declared.Script.{Script}
 use Rattle.images.specs.declared.Slot as Image
 use Rattle.images.specs.declared.Net as Images
@@ -29,8 +27,8 @@ kindAs (suc (suc (suc zero))) = tuple
 kindAs (suc (suc (suc (suc zero)))) = consumed
 kindAs (suc (suc (suc (suc (suc k))))) = free
 
-module _ (s : Script) (w : ShapedScript s) (range : scriptInRange s ≡ true) where
-  abbrev pub slotView : Image.Slot → Slot (rulesOf s w range)
+module _ (s : Script) where
+  abbrev pub slotView : Image.Slot → Slot (rulesOf s)
   slotView x =
       record {
         kind = kindAs (x .kind);
@@ -42,7 +40,7 @@ module _ (s : Script) (w : ShapedScript s) (range : scriptInRange s ≡ true) wh
       }
 
   -- "bit n is locality n"; "slot n is key n"
-  unfoldable pub view : Images.Net → Net (rulesOf s w range)
+  unfoldable pub view : Images.Net → Net (rulesOf s)
   view n =
       record {
         present = λ l. ltb l localityCount && member (n .present .0) l;

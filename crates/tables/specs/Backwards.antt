@@ -24,7 +24,7 @@ use Rattle.nets.specs.Records.{locality-of}
 use Rattle.nets.specs.Origins.{left-alone}
 use Rattle.products.specs.Body.{Body}
 use Rattle.products.specs.Products.{kindOf}
-use Rattle.rules.specs.Instance.{rulesOf, actOf}
+use Rattle.rules.specs.Instance.{rulesOf, lawfulOf, actOf}
 use Rattle.tables.specs.Terms.{Holds}
 use Rattle.tables.specs.Reversals.{Back, OutRev, InRev, ReadRev, NewRev, EvalRev, SplitRev}
 use Rattle.tables.specs.Frees.{undo-two, undo-take, undo-one, undo-new}
@@ -33,12 +33,12 @@ use Rattle.tables.specs.Kinds.{is-out, is-in, is-read, is-newloc, is-eva
 
 module _ (s : Script) (w : ShapedScript s) (range : scriptInRange s ≡ true) where
   abbrev R : Rules
-  R = rulesOf s w range
+  R = rulesOf s
 
-  module _ (n : Net (rulesOf s w range)) (ok : Accepted n) (k : ℕ) (m : Net (rulesOf s w range)) where
+  module _ (n : Net (rulesOf s)) (ok : Accepted n) (k : ℕ) (m : Net (rulesOf s)) where
     -- ---- each reversal undoes
 
-    pub back-undo : Back s w range n k m → Undoable n k × (m ≡ undo n k)
+    pub back-undo : Back s n k m → Undoable n k × (m ≡ undo n k)
     back-undo (OutRev k′ k″ b goes e kind made unread z) =
         let act = is-out (kindOf s b) kind in
         let two = ap (λ x. isThere (secondOf x)) act in
@@ -111,7 +111,7 @@ module _ (s : Script) (w : ShapedScript s) (range : scriptInRange s ≡ true) wh
           let f = second-there n ok k u (ap (λ x. isThere (secondOf x)) act ∙ two) ∙ ap (λ x. besides {R = R} (secondOf x) b) act ∙ e in
           record { kind = ap (λ (y : Slot R). y .kind) f; body = ap (λ (y : Slot R). y .body) f }
 
-      by-act : (a : Act) → actOf (kindOf s b) ≡ a → Back s w range n k m
+      by-act : (a : Act) → actOf (kindOf s b) ≡ a → Back s n k m
       by-act Rules.nil act = absurd (false≢true (sym (ap acts act) ∙ ok .agrees k (u .is-past) .rule .acting))
       by-act Rules.out act =
           let kind = kind-is (kindOf s b) 1 (ap number act) (omega arith) in
@@ -139,7 +139,7 @@ module _ (s : Script) (w : ShapedScript s) (range : scriptInRange s ≡ true) wh
           let e = memory-new n ok k u (ap (λ x. isThere (secondOf x)) act) (ap uses act) in
           let p = places n ok k b k′ none none l′ e in
           NewRev k′ l′ b (goes-on _ (new-next s b k t l′ kind)) e kind
-          (left-alone n ok k l′ (locality-of (n .slot k) (u .is-past) (ap Rules.isNewloc act)) u)
+          (left-alone (lawfulOf s w range) n ok k l′ (locality-of (n .slot k) (u .is-past) (ap Rules.isNewloc act)) u)
           (z ∙ undo-new n k (is-key n ok k b k′ none none l′ e) b k′ l′ e (p .first) (ap isTake act) (ap Rules.isNewloc act))
       by-act Rules.eval act =
           let kind = kind-is (kindOf s b) 5 (ap number act) (omega arith) in
@@ -157,17 +157,17 @@ module _ (s : Script) (w : ShapedScript s) (range : scriptInRange s ≡ true) wh
           (z ∙ undo-two n k (is-key n ok k b k′ k″ none none e) b k′ k″ e (p .first) (p .second two) (ap isTake act) (ap Rules.isNewloc act))
       by-act Rules.roll act = absurd (false≢true (sym (ap acts act) ∙ ok .agrees k (u .is-past) .rule .acting))
 
-    pub undo-back : Undoable n k → m ≡ undo n k → Back s w range n k m
+    pub undo-back : Undoable n k → m ≡ undo n k → Back s n k m
     undo-back u z = by-act u z (actOf (kindOf s (n .slot k .body))) refl
 
-    pub back-iff : Back s w range n k m ↔ (Undoable n k × (m ≡ undo n k))
+    pub back-iff : Back s n k m ↔ (Undoable n k × (m ≡ undo n k))
     back-iff = (back-undo, λ p. undo-back (p .0) (p .1))
 
   -- what undoing makes of an event that may be undone
-  pub undoable-back : (n : Net (rulesOf s w range)) → Accepted n → (k : ℕ) → Undoable n k → Back s w range n k (undo n k)
+  pub undoable-back : (n : Net (rulesOf s)) → Accepted n → (k : ℕ) → Undoable n k → Back s n k (undo n k)
   undoable-back n ok k u = undo-back n ok k (undo n k) u refl
 
-  pub backward-iff : (n : Net (rulesOf s w range)) → Accepted n → (m : Net (rulesOf s w range)) → ((k : ℕ) × Back s w range n k m) ↔ Backward n m
+  pub backward-iff : (n : Net (rulesOf s)) → Accepted n → (m : Net (rulesOf s)) → ((k : ℕ) × Back s n k m) ↔ Backward n m
   backward-iff n ok m = (
     λ p. let (u, z) = back-undo n ok (p .0) m (p .1) in record { event = p .0; can = u; ends = z },
     λ q. (q .event, undo-back n ok (q .event) m (q .can) (q .ends)),

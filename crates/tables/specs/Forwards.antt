@@ -29,11 +29,11 @@ use Rattle.tables.specs.Kinds.{is-out, is-in, is-read, is-newloc, is-eva
 
 module _ (s : Script) (w : ShapedScript s) (range : scriptInRange s ≡ true) where
   abbrev R : Rules
-  R = rulesOf s w range
+  R = rulesOf s
 
   -- ---- the net after a step, as the table has it
 
-  module _ (n : Net (rulesOf s w range)) (k : ℕ) (b : Body) (body : n .slot k .body ≡ b) where
+  module _ (n : Net (rulesOf s)) (k : ℕ) (b : Body) (body : n .slot k .body ≡ b) where
     -- the contents that a request without a tuple meets: no rule looks at them
     abbrev nobody : Body
     nobody = forget (n .slot none) .body
@@ -69,10 +69,10 @@ module _ (s : Script) (w : ShapedScript s) (range : scriptInRange s ≡ true) wh
         two-is n k b Rules.split body (is-split (kindOf s b) kind) k₁ k₂ _ _ p q refl refl (split-next s b k nobody none w range kind)
         (ap (fresh live) (split-second s b kind))
 
-  module _ (n m : Net (rulesOf s w range)) where
+  module _ (n m : Net (rulesOf s)) where
     -- ---- each rule is a step
 
-    pub step-forward : Step s w range n m → Forward n m
+    pub step-forward : Step s n m → Forward n m
     step-forward (Out k k′ k″ b holds kind ready there f′ f″ apart e) =
         record {
           request = asks-two k k′ k″;
@@ -143,7 +143,7 @@ module _ (s : Script) (w : ShapedScript s) (range : scriptInRange s ≡ true) wh
       fit : (a : Act) → actOf (kindOf s b) ≡ a → uses a ≡ true → fits s b (n .slot (r .used) .body) ≡ true
       fit a act u = ap (fits s b) (sym (met-is a act u)) ∙ can .rule .fits (ap uses act ∙ u)
 
-      by-act : (a : Act) → actOf (kindOf s b) ≡ a → Step s w range n m
+      by-act : (a : Act) → actOf (kindOf s b) ≡ a → Step s n m
       by-act Rules.nil act = absurd (false≢true (sym (ap acts act) ∙ can .rule .acting))
       by-act Rules.out act =
           let kind = kind-is (kindOf s b) 1 (ap number act) (omega arith) in
@@ -184,12 +184,12 @@ module _ (s : Script) (w : ShapedScript s) (range : scriptInRange s ≡ true) wh
           (ends-two Rules.split act refl refl ∙ split-net n (r .key) b refl (r .first) (r .second) kind (f′ .is-key) (f″ .is-key))
       by-act Rules.roll act = absurd (false≢true (sym (ap acts act) ∙ can .rule .acting))
 
-    pub forward-step : Forward n m → Step s w range n m
+    pub forward-step : Forward n m → Step s n m
     forward-step f = by-act (f .request) (f .can) (f .ends) (actOf (kindOf s (n .slot (f .request .key) .body))) refl
 
-    pub step-iff : Step s w range n m ↔ Forward n m
+    pub step-iff : Step s n m ↔ Forward n m
     step-iff = (step-forward, forward-step)
 
   -- what the step makes of a request that is allowed
-  pub can-step : (n : Net (rulesOf s w range)) (r : Request) → Can n r → Step s w range n (forward n r)
+  pub can-step : (n : Net (rulesOf s)) (r : Request) → Can n r → Step s n (forward n r)
   can-step n r can = forward-step n (forward n r) (record { request = r; can = can; ends = refl })

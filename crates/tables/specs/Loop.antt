@@ -10,7 +10,7 @@ use Rattle.images.specs.declared.Script.{Script}
 use Rattle.nets.specs.Net.{Net}
 use Rattle.nets.specs.Accepted.{Accepted}
 use Rattle.nets.specs.Demands.{loop-forward, loop-backward}
-use Rattle.rules.specs.Instance.{rulesOf}
+use Rattle.rules.specs.Instance.{rulesOf, lawfulOf}
 use Rattle.tables.specs.Table.{Step}
 use Rattle.tables.specs.Reversals.{Back}
 use Rattle.tables.specs.Forwards.{step-forward, forward-step}
@@ -18,8 +18,8 @@ use Rattle.tables.specs.Backwards.{backward-iff}
 
 module _ (s : Script) (w : ShapedScript s) (range : scriptInRange s ≡ true) where
   -- "(Loop lemma): For all well-formed nets N and M, the following holds: N ↦ M if and only if M ⇝ N."
-  pub loop : (n m : Net (rulesOf s w range)) → Accepted n → Accepted m → Step s w range n m ↔ ((k : ℕ) × Back s w range m k n)
+  pub loop : (n m : Net (rulesOf s)) → Accepted n → Accepted m → Step s n m ↔ ((k : ℕ) × Back s m k n)
   loop n m good fine = (
-    λ p. backward-iff s w range m fine n .1 (loop-forward n good m (step-forward s w range n m p)),
-    λ q. forward-step s w range n m (loop-backward m fine n (backward-iff s w range m fine n .0 q)),
+    λ p. backward-iff s w range m fine n .1 (loop-forward (lawfulOf s w range) n good m (step-forward s w range n m p)),
+    λ q. forward-step s w range n m (loop-backward (lawfulOf s w range) m fine n (backward-iff s w range m fine n .0 q)),
   )

@@ -8,8 +8,6 @@ use mathlib.Core.Path.{_≡_}
 use mathlib.Core.Bool.{true, false}
 use Prim.Native.Nat.{ℕ}
 use Rattle.names.specs.Names.{none}
-use Rattle.images.specs.Script.{scriptInRange}
-use Rattle.images.specs.Shape.{ShapedScript}
 use Rattle.images.specs.declared.Script.{Script}
 use Rattle.nets.specs.Net.{live, tuple, consumed, Net, freeSlot, fresh, reads}
 use Rattle.nets.specs.Origins.{Alone}
@@ -19,9 +17,9 @@ use Rattle.rules.specs.Instance.{rulesOf}
 use Rattle.tables.specs.Terms.{Holds, memory, put, withoutLocality}
 use Rattle.tables.specs.Table.{following, binding, spawned, left, right}
 
-module _ (s : Script) (w : ShapedScript s) (range : scriptInRange s ≡ true) where
+module _ (s : Script) where
   -- n ⇝ m by one of the rules, which undoes the event with key k
-  pub data Back (n : Net (rulesOf s w range)) (k : ℕ) (m : Net (rulesOf s w range)) : Type 0 where
+  pub data Back (n : Net (rulesOf s)) (k : ℕ) (m : Net (rulesOf s)) : Type 0 where
     -- (OutRev) (νk″)(l :: k′ : P | [k : out(t)@l′.P; k″; k′] ∥ l′ :: k″ : ⟨et⟩) ⇝ l :: k : out(t)@l′.P ∥ l′ :: empty.
     -- The restriction: "k″ occurs only in the out memory and in the tuple. This ensures that read actions that have accessed the tuple, whose resulting
     -- memory would contain k″, have been undone." Document 01: "a tuple it made is in no past read".

@@ -20,8 +20,6 @@ use Rattle.names.specs.Names.{none, keyCount, key, locality}
 use Rattle.names.specs.declared.Key.{Key}
 use Rattle.names.specs.declared.Locality.{Locality}
 use Rattle.names.specs.declared.Node.{Node}
-use Rattle.images.specs.Script.{scriptInRange}
-use Rattle.images.specs.Shape.{ShapedScript}
 use Rattle.images.specs.declared.Script.{Script}
 use Rattle.images.specs.declared.Datum.{Datum}
 use Rattle.matching.specs.Match.{bound, withVariable}
@@ -63,9 +61,9 @@ right s b = process (b .locality) (action s b .other) (b .contents) (b .refs)
 
 -- ---- the table
 
-module _ (s : Script) (w : ShapedScript s) (range : scriptInRange s ≡ true) where
+module _ (s : Script) where
   -- n ↦ m by one of the rules
-  pub data Step (n m : Net (rulesOf s w range)) : Type 0 where
+  pub data Step (n m : Net (rulesOf s)) : Type 0 where
     -- (Out) If ⟦t⟧ = et, then
     -- l :: k : out_γ(t)@l′.P ∥ l′ :: empty ↦ (νk′, k″)(l :: k′ : P[k/γ] | [k : out_γ(t)@l′.P; k″; k′] ∥ l′ :: k″ : ⟨et⟩).
     -- Document 01: "out: byte 3 continuation, 4 new tuple at the target."
