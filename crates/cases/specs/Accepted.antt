@@ -164,33 +164,33 @@ step-accepted : (m : Net T) → Accepted m → (r : Request) → inRange r ≡ t
 step-accepted m ok r range done = forward-accepted T-lawful m ok (places rolled m r) (forward-can rolled refl refl m r range done)
 
 pub accepted-A₁ : Accepted (stepped netA (request 0 0 255 2 3 255))
-unfolding inRange refusal forwardChecks placesOf tupleThere freshFree Products.target Products.fits Evaluate.targetOf Evaluate.actual Products.isReady Evaluate.fieldsReady Evaluate.isReady Match.meets Match.placeMeets Match.fieldMeets Match.bound Match.bindUpTo Match.bindOne all actOf madeKey tookTuple readTuple madeLocality forward product Products.continuation Products.variablesAfter Products.referencesAfter Products.secondMade Products.tupleMade Products.processMade tab any
+unfolding inRange refusal forwardChecks placesOf tupleThere freshFree Products.targetBy Products.fits Evaluate.targetOf Evaluate.actual Products.readyBy Evaluate.fieldsReady Evaluate.isReady Match.meets Match.placeMeets Match.fieldMeets Match.bound Match.bindUpTo Match.bindOne all actOf madeKey tookTuple readTuple madeLocality forward product Products.continuedBy Products.variablesAfter Products.referencesAfter Products.secondBy Products.tupleBy Products.processBy tab any
 accepted-A₁ = step-accepted netA accepted-A (request 0 0 255 2 3 255) refl refl
 
 pub accepted-A₂ : Accepted (stepped (stepped netA (request 0 0 255 2 3 255)) (request 0 2 1 4 255 255))
-unfolding inRange refusal forwardChecks placesOf tupleThere freshFree Products.target Products.fits Evaluate.targetOf Evaluate.actual Products.isReady Evaluate.fieldsReady Evaluate.isReady Match.meets Match.placeMeets Match.fieldMeets Match.bound Match.bindUpTo Match.bindOne all actOf madeKey tookTuple readTuple madeLocality forward product Products.continuation Products.variablesAfter Products.referencesAfter Products.secondMade Products.tupleMade Products.processMade tab any
+unfolding inRange refusal forwardChecks placesOf tupleThere freshFree Products.targetBy Products.fits Evaluate.targetOf Evaluate.actual Products.readyBy Evaluate.fieldsReady Evaluate.isReady Match.meets Match.placeMeets Match.fieldMeets Match.bound Match.bindUpTo Match.bindOne all actOf madeKey tookTuple readTuple madeLocality forward product Products.continuedBy Products.variablesAfter Products.referencesAfter Products.secondBy Products.tupleBy Products.processBy tab any
 accepted-A₂ = step-accepted (stepped netA (request 0 0 255 2 3 255)) accepted-A₁ (request 0 2 1 4 255 255) refl refl
 
 pub accepted-B₁ : Accepted (stepped netB (request 0 1 0 3 255 255))
-unfolding inRange refusal forwardChecks placesOf tupleThere freshFree Products.target Products.fits Evaluate.targetOf Evaluate.actual Products.isReady Evaluate.fieldsReady Evaluate.isReady Match.meets Match.placeMeets Match.fieldMeets Match.bound Match.bindUpTo Match.bindOne all actOf madeKey tookTuple readTuple madeLocality forward product Products.continuation Products.variablesAfter Products.referencesAfter Products.secondMade Products.tupleMade Products.processMade tab any
+unfolding inRange refusal forwardChecks placesOf tupleThere freshFree Products.targetBy Products.fits Evaluate.targetOf Evaluate.actual Products.readyBy Evaluate.fieldsReady Evaluate.isReady Match.meets Match.placeMeets Match.fieldMeets Match.bound Match.bindUpTo Match.bindOne all actOf madeKey tookTuple readTuple madeLocality forward product Products.continuedBy Products.variablesAfter Products.referencesAfter Products.secondBy Products.tupleBy Products.processBy tab any
 accepted-B₁ = step-accepted netB accepted-B (request 0 1 0 3 255 255) refl refl
 
 pub accepted-B₂ : Accepted (stepped (stepped netB (request 0 1 0 3 255 255)) (request 0 2 0 4 255 255))
-unfolding inRange refusal forwardChecks placesOf tupleThere freshFree Products.target Products.fits Evaluate.targetOf Evaluate.actual Products.isReady Evaluate.fieldsReady Evaluate.isReady Match.meets Match.placeMeets Match.fieldMeets Match.bound Match.bindUpTo Match.bindOne all actOf madeKey tookTuple readTuple madeLocality forward product Products.continuation Products.variablesAfter Products.referencesAfter Products.secondMade Products.tupleMade Products.processMade tab any
+unfolding inRange refusal forwardChecks placesOf tupleThere freshFree Products.targetBy Products.fits Evaluate.targetOf Evaluate.actual Products.readyBy Evaluate.fieldsReady Evaluate.isReady Match.meets Match.placeMeets Match.fieldMeets Match.bound Match.bindUpTo Match.bindOne all actOf madeKey tookTuple readTuple madeLocality forward product Products.continuedBy Products.variablesAfter Products.referencesAfter Products.secondBy Products.tupleBy Products.processBy tab any
 accepted-B₂ = step-accepted (stepped netB (request 0 1 0 3 255 255)) accepted-B₁ (request 0 2 0 4 255 255) refl refl
 
 pub accepted-C₁ : Accepted (stepped netC (request 0 1 0 3 255 255))
-unfolding inRange refusal forwardChecks placesOf tupleThere freshFree Products.target Products.fits Evaluate.targetOf Evaluate.actual Products.isReady Evaluate.fieldsReady Evaluate.isReady Match.meets Match.placeMeets Match.fieldMeets Match.bound Match.bindUpTo Match.bindOne all actOf madeKey tookTuple readTuple madeLocality forward product Products.continuation Products.variablesAfter Products.referencesAfter Products.secondMade Products.tupleMade Products.processMade tab any
+unfolding inRange refusal forwardChecks placesOf tupleThere freshFree Products.targetBy Products.fits Evaluate.targetOf Evaluate.actual Products.readyBy Evaluate.fieldsReady Evaluate.isReady Match.meets Match.placeMeets Match.fieldMeets Match.bound Match.bindUpTo Match.bindOne all actOf madeKey tookTuple readTuple madeLocality forward product Products.continuedBy Products.variablesAfter Products.referencesAfter Products.secondBy Products.tupleBy Products.processBy tab any
 accepted-C₁ = step-accepted netC accepted-C (request 0 1 0 3 255 255) refl refl
 
 pub accepted-C₂ : Accepted (stepped (stepped netC (request 0 1 0 3 255 255)) (request 0 2 0 4 255 255))
-unfolding inRange refusal forwardChecks placesOf tupleThere freshFree Products.target Products.fits Evaluate.targetOf Evaluate.actual Products.isReady Evaluate.fieldsReady Evaluate.isReady Match.meets Match.placeMeets Match.fieldMeets Match.bound Match.bindUpTo Match.bindOne all actOf madeKey tookTuple readTuple madeLocality forward product Products.continuation Products.variablesAfter Products.referencesAfter Products.secondMade Products.tupleMade Products.processMade tab any
+unfolding inRange refusal forwardChecks placesOf tupleThere freshFree Products.targetBy Products.fits Evaluate.targetOf Evaluate.actual Products.readyBy Evaluate.fieldsReady Evaluate.isReady Match.meets Match.placeMeets Match.fieldMeets Match.bound Match.bindUpTo Match.bindOne all actOf madeKey tookTuple readTuple madeLocality forward product Products.continuedBy Products.variablesAfter Products.referencesAfter Products.secondBy Products.tupleBy Products.processBy tab any
 accepted-C₂ = step-accepted (stepped netC (request 0 1 0 3 255 255)) accepted-C₁ (request 0 2 0 4 255 255) refl refl
 
 pub accepted-D₁ : Accepted (stepped netD (request 0 0 255 1 255 8))
-unfolding inRange refusal forwardChecks placesOf tupleThere freshFree Products.target Products.fits Evaluate.targetOf Evaluate.actual Products.isReady Evaluate.fieldsReady Evaluate.isReady Match.meets Match.placeMeets Match.fieldMeets Match.bound Match.bindUpTo Match.bindOne all actOf madeKey tookTuple readTuple madeLocality forward product Products.continuation Products.variablesAfter Products.referencesAfter Products.secondMade Products.tupleMade Products.processMade tab any
+unfolding inRange refusal forwardChecks placesOf tupleThere freshFree Products.targetBy Products.fits Evaluate.targetOf Evaluate.actual Products.readyBy Evaluate.fieldsReady Evaluate.isReady Match.meets Match.placeMeets Match.fieldMeets Match.bound Match.bindUpTo Match.bindOne all actOf madeKey tookTuple readTuple madeLocality forward product Products.continuedBy Products.variablesAfter Products.referencesAfter Products.secondBy Products.tupleBy Products.processBy tab any
 accepted-D₁ = step-accepted netD accepted-D (request 0 0 255 1 255 8) refl refl
 
 pub accepted-D₂ : Accepted (stepped (stepped netD (request 0 0 255 1 255 8)) (request 0 1 255 2 3 255))
-unfolding inRange refusal forwardChecks placesOf tupleThere freshFree Products.target Products.fits Evaluate.targetOf Evaluate.actual Products.isReady Evaluate.fieldsReady Evaluate.isReady Match.meets Match.placeMeets Match.fieldMeets Match.bound Match.bindUpTo Match.bindOne all actOf madeKey tookTuple readTuple madeLocality forward product Products.continuation Products.variablesAfter Products.referencesAfter Products.secondMade Products.tupleMade Products.processMade tab any
+unfolding inRange refusal forwardChecks placesOf tupleThere freshFree Products.targetBy Products.fits Evaluate.targetOf Evaluate.actual Products.readyBy Evaluate.fieldsReady Evaluate.isReady Match.meets Match.placeMeets Match.fieldMeets Match.bound Match.bindUpTo Match.bindOne all actOf madeKey tookTuple readTuple madeLocality forward product Products.continuedBy Products.variablesAfter Products.referencesAfter Products.secondBy Products.tupleBy Products.processBy tab any
 accepted-D₂ = step-accepted (stepped netD (request 0 0 255 1 255 8)) accepted-D₁ (request 0 1 255 2 3 255) refl refl

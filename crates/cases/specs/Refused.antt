@@ -29,13 +29,14 @@ use Rattle.nets.specs.Net.{Kind, free, live, past, tuple, consumed, Slot, Net, 
 use Rattle.nets.specs.Rule.{product}
 use Rattle.nets.specs.Accepted.{Accepted}
 use Rattle.products.specs.Body.{Body}
-use Rattle.products.specs.Products.{target, isReady, fits, continuation, secondMade, tupleMade, processMade, variablesAfter, referencesAfter}
+use Rattle.products.specs.Products.{target, isReady, fits, continuation, secondMade, tupleMade, processMade, variablesAfter, referencesAfter, continuedBy, processBy, readyBy, secondBy, targetBy, tupleBy}
 use Rattle.laws.specs.Lists.{tab}
 use Rattle.order.specs.KeySets.{any}
 use Rattle.order.specs.Dependents
+use Rattle.order.specs.Distinct
 use Rattle.order.specs.Peeling
 use Rattle.order.specs.Peeling.{acyclic}
-use Rattle.nets.specs.Accepting.{accepted, formed, sameSlot, agreed, ruled, placed, fitting, onceEach, saidOnce, tuplesRight, localitiesRight, rootsRight}
+use Rattle.nets.specs.Accepting.{accepted, formed, sameSlot, agreed, ruled, placed, fitting, onceEach, tuplesRight, localitiesRight, rootsRight}
 use Rattle.rules.specs.Same.{isAccepted, sameBody, sameList}
 use Rattle.rules.specs.Roots.{rooted}
 use Rattle.rules.specs.Instance.{actOf, rulesOf}
@@ -129,7 +130,7 @@ abbrev nowhere : Net S
 nowhere = net (λ l. eqb l 0) (event (at 5 0 nothing) 1 2 none none ∷ ended 0 ∷ tupleAt tuple 1 5 ∷ [])
 
 pub nowhere-refused : Accepted nowhere → ⊥
-unfolding actOf target targetOf actual
+unfolding actOf targetBy targetOf actual
 nowhere-refused ok = true≢false (sym (ok .agrees 0 refl .rule .there refl))
 
 -- ---- the same by the test of acceptance, which computes
@@ -138,21 +139,21 @@ abbrev tested : Net S → Bool
 tested n = isAccepted script n
 
 selfMade-tested : tested selfMade ≡ false
-unfolding accepted formed sameSlot agreed ruled placed fitting onceEach saidOnce tuplesRight localitiesRight rootsRight sameBody sameList acyclic Dependents.rounds Peeling.peel Peeling.last depends madeKey tookTuple readTuple madeLocality any all product actOf target targetOf actual isReady fits continuation secondMade tupleMade processMade variablesAfter referencesAfter meets placeMeets fieldMeets bound bindUpTo bindOne fieldsReady Evaluate.isReady rooted refsAre processInRange tupleInRange refsInRange variablesInRange isDatum isSet isUnset madeAre dataFill fieldOrBlank tab
+unfolding accepted formed sameSlot agreed ruled placed fitting onceEach Distinct.distinct tuplesRight localitiesRight rootsRight sameBody sameList acyclic Dependents.rounds Peeling.peel Peeling.last depends madeKey tookTuple readTuple madeLocality any all product actOf targetBy targetOf actual readyBy fits continuedBy secondBy tupleBy processBy variablesAfter referencesAfter meets placeMeets fieldMeets bound bindUpTo bindOne fieldsReady Evaluate.isReady rooted refsAre processInRange tupleInRange refsInRange variablesInRange isDatum isSet isUnset madeAre dataFill fieldOrBlank tab
 selfMade-tested = refl
 
 readAfter-tested : tested readAfter ≡ false
-unfolding accepted formed sameSlot agreed ruled placed fitting onceEach saidOnce tuplesRight localitiesRight rootsRight sameBody sameList acyclic Dependents.rounds Peeling.peel Peeling.last depends madeKey tookTuple readTuple madeLocality any all product actOf target targetOf actual isReady fits continuation secondMade tupleMade processMade variablesAfter referencesAfter meets placeMeets fieldMeets bound bindUpTo bindOne fieldsReady Evaluate.isReady rooted refsAre processInRange tupleInRange refsInRange variablesInRange isDatum isSet isUnset madeAre dataFill fieldOrBlank tab
+unfolding accepted formed sameSlot agreed ruled placed fitting onceEach Distinct.distinct tuplesRight localitiesRight rootsRight sameBody sameList acyclic Dependents.rounds Peeling.peel Peeling.last depends madeKey tookTuple readTuple madeLocality any all product actOf targetBy targetOf actual readyBy fits continuedBy secondBy tupleBy processBy variablesAfter referencesAfter meets placeMeets fieldMeets bound bindUpTo bindOne fieldsReady Evaluate.isReady rooted refsAre processInRange tupleInRange refsInRange variablesInRange isDatum isSet isUnset madeAre dataFill fieldOrBlank tab
 readAfter-tested = refl
 
 crossed-tested : tested crossed ≡ false
-unfolding accepted formed sameSlot agreed ruled placed fitting onceEach saidOnce tuplesRight localitiesRight rootsRight sameBody sameList acyclic Dependents.rounds Peeling.peel Peeling.last depends madeKey tookTuple readTuple madeLocality any all product actOf target targetOf actual isReady fits continuation secondMade tupleMade processMade variablesAfter referencesAfter meets placeMeets fieldMeets bound bindUpTo bindOne fieldsReady Evaluate.isReady rooted refsAre processInRange tupleInRange refsInRange variablesInRange isDatum isSet isUnset madeAre dataFill fieldOrBlank tab
+unfolding accepted formed sameSlot agreed ruled placed fitting onceEach Distinct.distinct tuplesRight localitiesRight rootsRight sameBody sameList acyclic Dependents.rounds Peeling.peel Peeling.last depends madeKey tookTuple readTuple madeLocality any all product actOf targetBy targetOf actual readyBy fits continuedBy secondBy tupleBy processBy variablesAfter referencesAfter meets placeMeets fieldMeets bound bindUpTo bindOne fieldsReady Evaluate.isReady rooted refsAre processInRange tupleInRange refsInRange variablesInRange isDatum isSet isUnset madeAre dataFill fieldOrBlank tab
 crossed-tested = refl
 
 madeTwice-tested : tested madeTwice ≡ false
-unfolding accepted formed sameSlot agreed ruled placed fitting onceEach saidOnce tuplesRight localitiesRight rootsRight sameBody sameList acyclic Dependents.rounds Peeling.peel Peeling.last depends madeKey tookTuple readTuple madeLocality any all product actOf target targetOf actual isReady fits continuation secondMade tupleMade processMade variablesAfter referencesAfter meets placeMeets fieldMeets bound bindUpTo bindOne fieldsReady Evaluate.isReady rooted refsAre processInRange tupleInRange refsInRange variablesInRange isDatum isSet isUnset madeAre dataFill fieldOrBlank tab
+unfolding accepted formed sameSlot agreed ruled placed fitting onceEach Distinct.distinct tuplesRight localitiesRight rootsRight sameBody sameList acyclic Dependents.rounds Peeling.peel Peeling.last depends madeKey tookTuple readTuple madeLocality any all product actOf targetBy targetOf actual readyBy fits continuedBy secondBy tupleBy processBy variablesAfter referencesAfter meets placeMeets fieldMeets bound bindUpTo bindOne fieldsReady Evaluate.isReady rooted refsAre processInRange tupleInRange refsInRange variablesInRange isDatum isSet isUnset madeAre dataFill fieldOrBlank tab
 madeTwice-tested = refl
 
 nowhere-tested : tested nowhere ≡ false
-unfolding accepted formed sameSlot agreed ruled placed fitting onceEach saidOnce tuplesRight localitiesRight rootsRight sameBody sameList acyclic Dependents.rounds Peeling.peel Peeling.last depends madeKey tookTuple readTuple madeLocality any all product actOf target targetOf actual isReady fits continuation secondMade tupleMade processMade variablesAfter referencesAfter meets placeMeets fieldMeets bound bindUpTo bindOne fieldsReady Evaluate.isReady rooted refsAre processInRange tupleInRange refsInRange variablesInRange isDatum isSet isUnset madeAre dataFill fieldOrBlank tab
+unfolding accepted formed sameSlot agreed ruled placed fitting onceEach Distinct.distinct tuplesRight localitiesRight rootsRight sameBody sameList acyclic Dependents.rounds Peeling.peel Peeling.last depends madeKey tookTuple readTuple madeLocality any all product actOf targetBy targetOf actual readyBy fits continuedBy secondBy tupleBy processBy variablesAfter referencesAfter meets placeMeets fieldMeets bound bindUpTo bindOne fieldsReady Evaluate.isReady rooted refsAre processInRange tupleInRange refsInRange variablesInRange isDatum isSet isUnset madeAre dataFill fieldOrBlank tab
 nowhere-tested = refl

@@ -20,8 +20,8 @@ use Rattle.images.specs.declared.Datum.{Datum}
 use Rattle.nets.specs.Rules.{Rules, Lawful}
 use Rattle.nets.specs.Net.{Kind, free, live, past, tuple, consumed, Slot, Net, freeSlot, fresh}
 use Rattle.products.specs.Body.{Body}
-use Rattle.products.specs.Products.{action}
 use Rattle.rules.specs.Instance.{rulesOf, lawfulOf}
+use Rattle.rules.specs.Roots.{rolledBy}
 use Rattle.cases.specs.Shaped.{shaped-script}
 
 pub range-T : scriptInRange scriptT ≡ true
@@ -40,8 +40,7 @@ T-lawful = lawfulOf scriptT shaped-T range-T
 
 -- the key that a roll's reference holds
 abbrev pub rolled : Body → ℕ
-rolled b =
-    pick (ltb (action scriptT b .reference .0) referenceCount) (getD (b .refs) (action scriptT b .reference .0) (key none) .0) none
+rolled = rolledBy scriptT
 
 -- ---- records and nets
 

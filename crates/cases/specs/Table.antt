@@ -260,103 +260,103 @@ module _ (c : Case) (present : Set) (slots : List (Slot T)) (few : length slots 
       }
 
 a-forward-holds : Holds a-forward
-unfolding run end outcome Answers.answer Answers.checksOf Answers.inRange Answers.forwardChecks Answers.backwardChecks Answers.rollbackChecks Answers.rollChecks refusal Answers.placesOf Answers.noPlaces Answers.tupleThere Answers.freshFree Answers.madeStays Answers.canUndo Answers.event Answers.netAfter Answers.undone Answers.touchedWord wordOf including touched any count Dependents.rounds Dependents.grow Dependents.closure Dependents.dependents depends forward madeBy takenBy localityBy againBy undoSet Products.target Products.fits Evaluate.targetOf Evaluate.actual Products.isReady Evaluate.fieldsReady Evaluate.isReady Match.meets Match.placeMeets Match.fieldMeets Match.bound Match.bindUpTo Match.bindOne all actOf madeKey tookTuple readTuple madeLocality product Products.continuation Products.variablesAfter Products.referencesAfter Products.secondMade Products.tupleMade Products.processMade tab
+unfolding run end outcome Answers.answer Answers.checksOf Answers.inRange Answers.forwardChecks Answers.backwardChecks Answers.rollbackChecks Answers.rollChecks refusal Answers.placesOf Answers.noPlaces Answers.tupleThere Answers.freshFree Answers.madeStays Answers.canUndo Answers.event Answers.netAfter Answers.undone Answers.touchedWord wordOf including touched any count Dependents.rounds Dependents.grow Dependents.closure Dependents.dependents depends forward madeBy takenBy localityBy againBy undoSet Products.targetBy Products.fits Evaluate.targetOf Evaluate.actual Products.readyBy Evaluate.fieldsReady Evaluate.isReady Match.meets Match.placeMeets Match.fieldMeets Match.bound Match.bindUpTo Match.bindOne all actOf madeKey tookTuple readTuple madeLocality product Products.continuedBy Products.variablesAfter Products.referencesAfter Products.secondBy Products.tupleBy Products.processBy tab
 a-forward-holds = record { answers = refl; ending = refl }
 
 a-roll-ends : end (a-roll .start) (a-roll .requests) ≡ undoSet netA₂ (dependents netA₂ 0)
-unfolding run end outcome Answers.answer Answers.checksOf Answers.inRange Answers.forwardChecks Answers.backwardChecks Answers.rollbackChecks Answers.rollChecks refusal Answers.placesOf Answers.noPlaces Answers.tupleThere Answers.freshFree Answers.madeStays Answers.canUndo Answers.event Answers.netAfter any depends Products.target Products.fits Evaluate.targetOf Evaluate.actual Products.isReady Evaluate.fieldsReady Evaluate.isReady Match.meets Match.placeMeets Match.fieldMeets Match.bound Match.bindUpTo Match.bindOne all actOf madeKey tookTuple readTuple madeLocality Products.continuation Products.variablesAfter Products.referencesAfter Products.secondMade Products.tupleMade Products.processMade tab
+unfolding run end outcome Answers.answer Answers.checksOf Answers.inRange Answers.forwardChecks Answers.backwardChecks Answers.rollbackChecks Answers.rollChecks refusal Answers.placesOf Answers.noPlaces Answers.tupleThere Answers.freshFree Answers.madeStays Answers.canUndo Answers.event Answers.netAfter any depends Products.targetBy Products.fits Evaluate.targetOf Evaluate.actual Products.readyBy Evaluate.fieldsReady Evaluate.isReady Match.meets Match.placeMeets Match.fieldMeets Match.bound Match.bindUpTo Match.bindOne all actOf madeKey tookTuple readTuple madeLocality Products.continuedBy Products.variablesAfter Products.referencesAfter Products.secondBy Products.tupleBy Products.processBy tab
 a-roll-ends = refl
 
 a-roll-holds : Holds a-roll
-unfolding run end outcome Answers.answer Answers.checksOf Answers.inRange Answers.forwardChecks Answers.backwardChecks Answers.rollbackChecks Answers.rollChecks refusal Answers.placesOf Answers.noPlaces Answers.tupleThere Answers.freshFree Answers.madeStays Answers.canUndo Answers.event Answers.netAfter Answers.undone Answers.touchedWord wordOf including touched any count Dependents.rounds Dependents.grow Dependents.closure Dependents.dependents depends forward madeBy takenBy localityBy againBy undoSet Products.target Products.fits Evaluate.targetOf Evaluate.actual Products.isReady Evaluate.fieldsReady Evaluate.isReady Match.meets Match.placeMeets Match.fieldMeets Match.bound Match.bindUpTo Match.bindOne all actOf madeKey tookTuple readTuple madeLocality product Products.continuation Products.variablesAfter Products.referencesAfter Products.secondMade Products.tupleMade Products.processMade tab
+unfolding run end outcome Answers.answer Answers.checksOf Answers.inRange Answers.forwardChecks Answers.backwardChecks Answers.rollbackChecks Answers.rollChecks refusal Answers.placesOf Answers.noPlaces Answers.tupleThere Answers.freshFree Answers.madeStays Answers.canUndo Answers.event Answers.netAfter Answers.undone Answers.touchedWord wordOf including touched any count Dependents.rounds Dependents.grow Dependents.closure Dependents.dependents depends forward madeBy takenBy localityBy againBy undoSet Products.targetBy Products.fits Evaluate.targetOf Evaluate.actual Products.readyBy Evaluate.fieldsReady Evaluate.isReady Match.meets Match.placeMeets Match.fieldMeets Match.bound Match.bindUpTo Match.bindOne all actOf madeKey tookTuple readTuple madeLocality product Products.continuedBy Products.variablesAfter Products.referencesAfter Products.secondBy Products.tupleBy Products.processBy tab
 a-roll-holds = rolls-back a-roll (netA₂ .present) slotsA₂ (omega arith) 0 (0 ∷ 2 ∷ []) refl (refl, (refl, tt)) (here, (step refl here, tt)) refl a-roll-ends refl
 
 b-forward-holds : Holds b-forward
-unfolding run end outcome Answers.answer Answers.checksOf Answers.inRange Answers.forwardChecks Answers.backwardChecks Answers.rollbackChecks Answers.rollChecks refusal Answers.placesOf Answers.noPlaces Answers.tupleThere Answers.freshFree Answers.madeStays Answers.canUndo Answers.event Answers.netAfter Answers.undone Answers.touchedWord wordOf including touched any count Dependents.rounds Dependents.grow Dependents.closure Dependents.dependents depends forward madeBy takenBy localityBy againBy undoSet Products.target Products.fits Evaluate.targetOf Evaluate.actual Products.isReady Evaluate.fieldsReady Evaluate.isReady Match.meets Match.placeMeets Match.fieldMeets Match.bound Match.bindUpTo Match.bindOne all actOf madeKey tookTuple readTuple madeLocality product Products.continuation Products.variablesAfter Products.referencesAfter Products.secondMade Products.tupleMade Products.processMade tab
+unfolding run end outcome Answers.answer Answers.checksOf Answers.inRange Answers.forwardChecks Answers.backwardChecks Answers.rollbackChecks Answers.rollChecks refusal Answers.placesOf Answers.noPlaces Answers.tupleThere Answers.freshFree Answers.madeStays Answers.canUndo Answers.event Answers.netAfter Answers.undone Answers.touchedWord wordOf including touched any count Dependents.rounds Dependents.grow Dependents.closure Dependents.dependents depends forward madeBy takenBy localityBy againBy undoSet Products.targetBy Products.fits Evaluate.targetOf Evaluate.actual Products.readyBy Evaluate.fieldsReady Evaluate.isReady Match.meets Match.placeMeets Match.fieldMeets Match.bound Match.bindUpTo Match.bindOne all actOf madeKey tookTuple readTuple madeLocality product Products.continuedBy Products.variablesAfter Products.referencesAfter Products.secondBy Products.tupleBy Products.processBy tab
 b-forward-holds = record { answers = refl; ending = refl }
 
 b-rollback-1-ends : end (b-rollback-1 .start) (b-rollback-1 .requests) ≡ undoSet netB₂ (dependents netB₂ 1)
-unfolding run end outcome Answers.answer Answers.checksOf Answers.inRange Answers.forwardChecks Answers.backwardChecks Answers.rollbackChecks Answers.rollChecks refusal Answers.placesOf Answers.noPlaces Answers.tupleThere Answers.freshFree Answers.madeStays Answers.canUndo Answers.event Answers.netAfter any depends Products.target Products.fits Evaluate.targetOf Evaluate.actual Products.isReady Evaluate.fieldsReady Evaluate.isReady Match.meets Match.placeMeets Match.fieldMeets Match.bound Match.bindUpTo Match.bindOne all actOf madeKey tookTuple readTuple madeLocality Products.continuation Products.variablesAfter Products.referencesAfter Products.secondMade Products.tupleMade Products.processMade tab
+unfolding run end outcome Answers.answer Answers.checksOf Answers.inRange Answers.forwardChecks Answers.backwardChecks Answers.rollbackChecks Answers.rollChecks refusal Answers.placesOf Answers.noPlaces Answers.tupleThere Answers.freshFree Answers.madeStays Answers.canUndo Answers.event Answers.netAfter any depends Products.targetBy Products.fits Evaluate.targetOf Evaluate.actual Products.readyBy Evaluate.fieldsReady Evaluate.isReady Match.meets Match.placeMeets Match.fieldMeets Match.bound Match.bindUpTo Match.bindOne all actOf madeKey tookTuple readTuple madeLocality Products.continuedBy Products.variablesAfter Products.referencesAfter Products.secondBy Products.tupleBy Products.processBy tab
 b-rollback-1-ends = refl
 
 b-rollback-1-holds : Holds b-rollback-1
-unfolding run end outcome Answers.answer Answers.checksOf Answers.inRange Answers.forwardChecks Answers.backwardChecks Answers.rollbackChecks Answers.rollChecks refusal Answers.placesOf Answers.noPlaces Answers.tupleThere Answers.freshFree Answers.madeStays Answers.canUndo Answers.event Answers.netAfter Answers.undone Answers.touchedWord wordOf including touched any count Dependents.rounds Dependents.grow Dependents.closure Dependents.dependents depends forward madeBy takenBy localityBy againBy undoSet Products.target Products.fits Evaluate.targetOf Evaluate.actual Products.isReady Evaluate.fieldsReady Evaluate.isReady Match.meets Match.placeMeets Match.fieldMeets Match.bound Match.bindUpTo Match.bindOne all actOf madeKey tookTuple readTuple madeLocality product Products.continuation Products.variablesAfter Products.referencesAfter Products.secondMade Products.tupleMade Products.processMade tab
+unfolding run end outcome Answers.answer Answers.checksOf Answers.inRange Answers.forwardChecks Answers.backwardChecks Answers.rollbackChecks Answers.rollChecks refusal Answers.placesOf Answers.noPlaces Answers.tupleThere Answers.freshFree Answers.madeStays Answers.canUndo Answers.event Answers.netAfter Answers.undone Answers.touchedWord wordOf including touched any count Dependents.rounds Dependents.grow Dependents.closure Dependents.dependents depends forward madeBy takenBy localityBy againBy undoSet Products.targetBy Products.fits Evaluate.targetOf Evaluate.actual Products.readyBy Evaluate.fieldsReady Evaluate.isReady Match.meets Match.placeMeets Match.fieldMeets Match.bound Match.bindUpTo Match.bindOne all actOf madeKey tookTuple readTuple madeLocality product Products.continuedBy Products.variablesAfter Products.referencesAfter Products.secondBy Products.tupleBy Products.processBy tab
 b-rollback-1-holds = rolls-back b-rollback-1 (netB₂ .present) slotsB₂ (omega arith) 1 (1 ∷ 2 ∷ []) refl (refl, (refl, tt)) (here, (step refl here, tt)) refl b-rollback-1-ends refl
 
 b-rollback-2-ends : end (b-rollback-2 .start) (b-rollback-2 .requests) ≡ undoSet netB₂ (dependents netB₂ 2)
-unfolding run end outcome Answers.answer Answers.checksOf Answers.inRange Answers.forwardChecks Answers.backwardChecks Answers.rollbackChecks Answers.rollChecks refusal Answers.placesOf Answers.noPlaces Answers.tupleThere Answers.freshFree Answers.madeStays Answers.canUndo Answers.event Answers.netAfter any depends Products.target Products.fits Evaluate.targetOf Evaluate.actual Products.isReady Evaluate.fieldsReady Evaluate.isReady Match.meets Match.placeMeets Match.fieldMeets Match.bound Match.bindUpTo Match.bindOne all actOf madeKey tookTuple readTuple madeLocality Products.continuation Products.variablesAfter Products.referencesAfter Products.secondMade Products.tupleMade Products.processMade tab
+unfolding run end outcome Answers.answer Answers.checksOf Answers.inRange Answers.forwardChecks Answers.backwardChecks Answers.rollbackChecks Answers.rollChecks refusal Answers.placesOf Answers.noPlaces Answers.tupleThere Answers.freshFree Answers.madeStays Answers.canUndo Answers.event Answers.netAfter any depends Products.targetBy Products.fits Evaluate.targetOf Evaluate.actual Products.readyBy Evaluate.fieldsReady Evaluate.isReady Match.meets Match.placeMeets Match.fieldMeets Match.bound Match.bindUpTo Match.bindOne all actOf madeKey tookTuple readTuple madeLocality Products.continuedBy Products.variablesAfter Products.referencesAfter Products.secondBy Products.tupleBy Products.processBy tab
 b-rollback-2-ends = refl
 
 b-rollback-2-holds : Holds b-rollback-2
-unfolding run end outcome Answers.answer Answers.checksOf Answers.inRange Answers.forwardChecks Answers.backwardChecks Answers.rollbackChecks Answers.rollChecks refusal Answers.placesOf Answers.noPlaces Answers.tupleThere Answers.freshFree Answers.madeStays Answers.canUndo Answers.event Answers.netAfter Answers.undone Answers.touchedWord wordOf including touched any count Dependents.rounds Dependents.grow Dependents.closure Dependents.dependents depends forward madeBy takenBy localityBy againBy undoSet Products.target Products.fits Evaluate.targetOf Evaluate.actual Products.isReady Evaluate.fieldsReady Evaluate.isReady Match.meets Match.placeMeets Match.fieldMeets Match.bound Match.bindUpTo Match.bindOne all actOf madeKey tookTuple readTuple madeLocality product Products.continuation Products.variablesAfter Products.referencesAfter Products.secondMade Products.tupleMade Products.processMade tab
+unfolding run end outcome Answers.answer Answers.checksOf Answers.inRange Answers.forwardChecks Answers.backwardChecks Answers.rollbackChecks Answers.rollChecks refusal Answers.placesOf Answers.noPlaces Answers.tupleThere Answers.freshFree Answers.madeStays Answers.canUndo Answers.event Answers.netAfter Answers.undone Answers.touchedWord wordOf including touched any count Dependents.rounds Dependents.grow Dependents.closure Dependents.dependents depends forward madeBy takenBy localityBy againBy undoSet Products.targetBy Products.fits Evaluate.targetOf Evaluate.actual Products.readyBy Evaluate.fieldsReady Evaluate.isReady Match.meets Match.placeMeets Match.fieldMeets Match.bound Match.bindUpTo Match.bindOne all actOf madeKey tookTuple readTuple madeLocality product Products.continuedBy Products.variablesAfter Products.referencesAfter Products.secondBy Products.tupleBy Products.processBy tab
 b-rollback-2-holds = rolls-back b-rollback-2 (netB₂ .present) slotsB₂ (omega arith) 2 (2 ∷ []) refl (refl, tt) (here, tt) refl b-rollback-2-ends refl
 
 c-forward-holds : Holds c-forward
-unfolding run end outcome Answers.answer Answers.checksOf Answers.inRange Answers.forwardChecks Answers.backwardChecks Answers.rollbackChecks Answers.rollChecks refusal Answers.placesOf Answers.noPlaces Answers.tupleThere Answers.freshFree Answers.madeStays Answers.canUndo Answers.event Answers.netAfter Answers.undone Answers.touchedWord wordOf including touched any count Dependents.rounds Dependents.grow Dependents.closure Dependents.dependents depends forward madeBy takenBy localityBy againBy undoSet Products.target Products.fits Evaluate.targetOf Evaluate.actual Products.isReady Evaluate.fieldsReady Evaluate.isReady Match.meets Match.placeMeets Match.fieldMeets Match.bound Match.bindUpTo Match.bindOne all actOf madeKey tookTuple readTuple madeLocality product Products.continuation Products.variablesAfter Products.referencesAfter Products.secondMade Products.tupleMade Products.processMade tab
+unfolding run end outcome Answers.answer Answers.checksOf Answers.inRange Answers.forwardChecks Answers.backwardChecks Answers.rollbackChecks Answers.rollChecks refusal Answers.placesOf Answers.noPlaces Answers.tupleThere Answers.freshFree Answers.madeStays Answers.canUndo Answers.event Answers.netAfter Answers.undone Answers.touchedWord wordOf including touched any count Dependents.rounds Dependents.grow Dependents.closure Dependents.dependents depends forward madeBy takenBy localityBy againBy undoSet Products.targetBy Products.fits Evaluate.targetOf Evaluate.actual Products.readyBy Evaluate.fieldsReady Evaluate.isReady Match.meets Match.placeMeets Match.fieldMeets Match.bound Match.bindUpTo Match.bindOne all actOf madeKey tookTuple readTuple madeLocality product Products.continuedBy Products.variablesAfter Products.referencesAfter Products.secondBy Products.tupleBy Products.processBy tab
 c-forward-holds = record { answers = refl; ending = refl }
 
 c-rollback-ends : end (c-rollback .start) (c-rollback .requests) ≡ undoSet netC₂ (dependents netC₂ 1)
-unfolding run end outcome Answers.answer Answers.checksOf Answers.inRange Answers.forwardChecks Answers.backwardChecks Answers.rollbackChecks Answers.rollChecks refusal Answers.placesOf Answers.noPlaces Answers.tupleThere Answers.freshFree Answers.madeStays Answers.canUndo Answers.event Answers.netAfter any depends Products.target Products.fits Evaluate.targetOf Evaluate.actual Products.isReady Evaluate.fieldsReady Evaluate.isReady Match.meets Match.placeMeets Match.fieldMeets Match.bound Match.bindUpTo Match.bindOne all actOf madeKey tookTuple readTuple madeLocality Products.continuation Products.variablesAfter Products.referencesAfter Products.secondMade Products.tupleMade Products.processMade tab
+unfolding run end outcome Answers.answer Answers.checksOf Answers.inRange Answers.forwardChecks Answers.backwardChecks Answers.rollbackChecks Answers.rollChecks refusal Answers.placesOf Answers.noPlaces Answers.tupleThere Answers.freshFree Answers.madeStays Answers.canUndo Answers.event Answers.netAfter any depends Products.targetBy Products.fits Evaluate.targetOf Evaluate.actual Products.readyBy Evaluate.fieldsReady Evaluate.isReady Match.meets Match.placeMeets Match.fieldMeets Match.bound Match.bindUpTo Match.bindOne all actOf madeKey tookTuple readTuple madeLocality Products.continuedBy Products.variablesAfter Products.referencesAfter Products.secondBy Products.tupleBy Products.processBy tab
 c-rollback-ends = refl
 
 c-rollback-holds : Holds c-rollback
-unfolding run end outcome Answers.answer Answers.checksOf Answers.inRange Answers.forwardChecks Answers.backwardChecks Answers.rollbackChecks Answers.rollChecks refusal Answers.placesOf Answers.noPlaces Answers.tupleThere Answers.freshFree Answers.madeStays Answers.canUndo Answers.event Answers.netAfter Answers.undone Answers.touchedWord wordOf including touched any count Dependents.rounds Dependents.grow Dependents.closure Dependents.dependents depends forward madeBy takenBy localityBy againBy undoSet Products.target Products.fits Evaluate.targetOf Evaluate.actual Products.isReady Evaluate.fieldsReady Evaluate.isReady Match.meets Match.placeMeets Match.fieldMeets Match.bound Match.bindUpTo Match.bindOne all actOf madeKey tookTuple readTuple madeLocality product Products.continuation Products.variablesAfter Products.referencesAfter Products.secondMade Products.tupleMade Products.processMade tab
+unfolding run end outcome Answers.answer Answers.checksOf Answers.inRange Answers.forwardChecks Answers.backwardChecks Answers.rollbackChecks Answers.rollChecks refusal Answers.placesOf Answers.noPlaces Answers.tupleThere Answers.freshFree Answers.madeStays Answers.canUndo Answers.event Answers.netAfter Answers.undone Answers.touchedWord wordOf including touched any count Dependents.rounds Dependents.grow Dependents.closure Dependents.dependents depends forward madeBy takenBy localityBy againBy undoSet Products.targetBy Products.fits Evaluate.targetOf Evaluate.actual Products.readyBy Evaluate.fieldsReady Evaluate.isReady Match.meets Match.placeMeets Match.fieldMeets Match.bound Match.bindUpTo Match.bindOne all actOf madeKey tookTuple readTuple madeLocality product Products.continuedBy Products.variablesAfter Products.referencesAfter Products.secondBy Products.tupleBy Products.processBy tab
 c-rollback-holds = rolls-back c-rollback (netC₂ .present) slotsC₂ (omega arith) 1 (1 ∷ []) refl (refl, tt) (here, tt) refl c-rollback-ends refl
 
 d-forward-holds : Holds d-forward
-unfolding run end outcome Answers.answer Answers.checksOf Answers.inRange Answers.forwardChecks Answers.backwardChecks Answers.rollbackChecks Answers.rollChecks refusal Answers.placesOf Answers.noPlaces Answers.tupleThere Answers.freshFree Answers.madeStays Answers.canUndo Answers.event Answers.netAfter Answers.undone Answers.touchedWord wordOf including touched any count Dependents.rounds Dependents.grow Dependents.closure Dependents.dependents depends forward madeBy takenBy localityBy againBy undoSet Products.target Products.fits Evaluate.targetOf Evaluate.actual Products.isReady Evaluate.fieldsReady Evaluate.isReady Match.meets Match.placeMeets Match.fieldMeets Match.bound Match.bindUpTo Match.bindOne all actOf madeKey tookTuple readTuple madeLocality product Products.continuation Products.variablesAfter Products.referencesAfter Products.secondMade Products.tupleMade Products.processMade tab
+unfolding run end outcome Answers.answer Answers.checksOf Answers.inRange Answers.forwardChecks Answers.backwardChecks Answers.rollbackChecks Answers.rollChecks refusal Answers.placesOf Answers.noPlaces Answers.tupleThere Answers.freshFree Answers.madeStays Answers.canUndo Answers.event Answers.netAfter Answers.undone Answers.touchedWord wordOf including touched any count Dependents.rounds Dependents.grow Dependents.closure Dependents.dependents depends forward madeBy takenBy localityBy againBy undoSet Products.targetBy Products.fits Evaluate.targetOf Evaluate.actual Products.readyBy Evaluate.fieldsReady Evaluate.isReady Match.meets Match.placeMeets Match.fieldMeets Match.bound Match.bindUpTo Match.bindOne all actOf madeKey tookTuple readTuple madeLocality product Products.continuedBy Products.variablesAfter Products.referencesAfter Products.secondBy Products.tupleBy Products.processBy tab
 d-forward-holds = record { answers = refl; ending = refl }
 
 d-rollback-ends : end (d-rollback .start) (d-rollback .requests) ≡ undoSet netD₂ (dependents netD₂ 0)
-unfolding run end outcome Answers.answer Answers.checksOf Answers.inRange Answers.forwardChecks Answers.backwardChecks Answers.rollbackChecks Answers.rollChecks refusal Answers.placesOf Answers.noPlaces Answers.tupleThere Answers.freshFree Answers.madeStays Answers.canUndo Answers.event Answers.netAfter any depends Products.target Products.fits Evaluate.targetOf Evaluate.actual Products.isReady Evaluate.fieldsReady Evaluate.isReady Match.meets Match.placeMeets Match.fieldMeets Match.bound Match.bindUpTo Match.bindOne all actOf madeKey tookTuple readTuple madeLocality Products.continuation Products.variablesAfter Products.referencesAfter Products.secondMade Products.tupleMade Products.processMade tab
+unfolding run end outcome Answers.answer Answers.checksOf Answers.inRange Answers.forwardChecks Answers.backwardChecks Answers.rollbackChecks Answers.rollChecks refusal Answers.placesOf Answers.noPlaces Answers.tupleThere Answers.freshFree Answers.madeStays Answers.canUndo Answers.event Answers.netAfter any depends Products.targetBy Products.fits Evaluate.targetOf Evaluate.actual Products.readyBy Evaluate.fieldsReady Evaluate.isReady Match.meets Match.placeMeets Match.fieldMeets Match.bound Match.bindUpTo Match.bindOne all actOf madeKey tookTuple readTuple madeLocality Products.continuedBy Products.variablesAfter Products.referencesAfter Products.secondBy Products.tupleBy Products.processBy tab
 d-rollback-ends = refl
 
 d-rollback-holds : Holds d-rollback
-unfolding run end outcome Answers.answer Answers.checksOf Answers.inRange Answers.forwardChecks Answers.backwardChecks Answers.rollbackChecks Answers.rollChecks refusal Answers.placesOf Answers.noPlaces Answers.tupleThere Answers.freshFree Answers.madeStays Answers.canUndo Answers.event Answers.netAfter Answers.undone Answers.touchedWord wordOf including touched any count Dependents.rounds Dependents.grow Dependents.closure Dependents.dependents depends forward madeBy takenBy localityBy againBy undoSet Products.target Products.fits Evaluate.targetOf Evaluate.actual Products.isReady Evaluate.fieldsReady Evaluate.isReady Match.meets Match.placeMeets Match.fieldMeets Match.bound Match.bindUpTo Match.bindOne all actOf madeKey tookTuple readTuple madeLocality product Products.continuation Products.variablesAfter Products.referencesAfter Products.secondMade Products.tupleMade Products.processMade tab
+unfolding run end outcome Answers.answer Answers.checksOf Answers.inRange Answers.forwardChecks Answers.backwardChecks Answers.rollbackChecks Answers.rollChecks refusal Answers.placesOf Answers.noPlaces Answers.tupleThere Answers.freshFree Answers.madeStays Answers.canUndo Answers.event Answers.netAfter Answers.undone Answers.touchedWord wordOf including touched any count Dependents.rounds Dependents.grow Dependents.closure Dependents.dependents depends forward madeBy takenBy localityBy againBy undoSet Products.targetBy Products.fits Evaluate.targetOf Evaluate.actual Products.readyBy Evaluate.fieldsReady Evaluate.isReady Match.meets Match.placeMeets Match.fieldMeets Match.bound Match.bindUpTo Match.bindOne all actOf madeKey tookTuple readTuple madeLocality product Products.continuedBy Products.variablesAfter Products.referencesAfter Products.secondBy Products.tupleBy Products.processBy tab
 d-rollback-holds = rolls-back d-rollback (netD₂ .present) slotsD₂ (omega arith) 0 (0 ∷ 1 ∷ []) refl (refl, (refl, tt)) (here, (step refl here, tt)) refl d-rollback-ends refl
 
 d-locality-7-holds : Holds d-locality-7
-unfolding run end outcome Answers.answer Answers.checksOf Answers.inRange Answers.forwardChecks Answers.backwardChecks Answers.rollbackChecks Answers.rollChecks refusal Answers.placesOf Answers.noPlaces Answers.tupleThere Answers.freshFree Answers.madeStays Answers.canUndo Answers.event Answers.netAfter Answers.undone Answers.touchedWord wordOf including touched any count Dependents.rounds Dependents.grow Dependents.closure Dependents.dependents depends forward madeBy takenBy localityBy againBy undoSet Products.target Products.fits Evaluate.targetOf Evaluate.actual Products.isReady Evaluate.fieldsReady Evaluate.isReady Match.meets Match.placeMeets Match.fieldMeets Match.bound Match.bindUpTo Match.bindOne all actOf madeKey tookTuple readTuple madeLocality product Products.continuation Products.variablesAfter Products.referencesAfter Products.secondMade Products.tupleMade Products.processMade tab
+unfolding run end outcome Answers.answer Answers.checksOf Answers.inRange Answers.forwardChecks Answers.backwardChecks Answers.rollbackChecks Answers.rollChecks refusal Answers.placesOf Answers.noPlaces Answers.tupleThere Answers.freshFree Answers.madeStays Answers.canUndo Answers.event Answers.netAfter Answers.undone Answers.touchedWord wordOf including touched any count Dependents.rounds Dependents.grow Dependents.closure Dependents.dependents depends forward madeBy takenBy localityBy againBy undoSet Products.targetBy Products.fits Evaluate.targetOf Evaluate.actual Products.readyBy Evaluate.fieldsReady Evaluate.isReady Match.meets Match.placeMeets Match.fieldMeets Match.bound Match.bindUpTo Match.bindOne all actOf madeKey tookTuple readTuple madeLocality product Products.continuedBy Products.variablesAfter Products.referencesAfter Products.secondBy Products.tupleBy Products.processBy tab
 d-locality-7-holds = record { answers = refl; ending = refl }
 
 d-locality-31-holds : Holds d-locality-31
-unfolding run end outcome Answers.answer Answers.checksOf Answers.inRange Answers.forwardChecks Answers.backwardChecks Answers.rollbackChecks Answers.rollChecks refusal Answers.placesOf Answers.noPlaces Answers.tupleThere Answers.freshFree Answers.madeStays Answers.canUndo Answers.event Answers.netAfter Answers.undone Answers.touchedWord wordOf including touched any count Dependents.rounds Dependents.grow Dependents.closure Dependents.dependents depends forward madeBy takenBy localityBy againBy undoSet Products.target Products.fits Evaluate.targetOf Evaluate.actual Products.isReady Evaluate.fieldsReady Evaluate.isReady Match.meets Match.placeMeets Match.fieldMeets Match.bound Match.bindUpTo Match.bindOne all actOf madeKey tookTuple readTuple madeLocality product Products.continuation Products.variablesAfter Products.referencesAfter Products.secondMade Products.tupleMade Products.processMade tab
+unfolding run end outcome Answers.answer Answers.checksOf Answers.inRange Answers.forwardChecks Answers.backwardChecks Answers.rollbackChecks Answers.rollChecks refusal Answers.placesOf Answers.noPlaces Answers.tupleThere Answers.freshFree Answers.madeStays Answers.canUndo Answers.event Answers.netAfter Answers.undone Answers.touchedWord wordOf including touched any count Dependents.rounds Dependents.grow Dependents.closure Dependents.dependents depends forward madeBy takenBy localityBy againBy undoSet Products.targetBy Products.fits Evaluate.targetOf Evaluate.actual Products.readyBy Evaluate.fieldsReady Evaluate.isReady Match.meets Match.placeMeets Match.fieldMeets Match.bound Match.bindUpTo Match.bindOne all actOf madeKey tookTuple readTuple madeLocality product Products.continuedBy Products.variablesAfter Products.referencesAfter Products.secondBy Products.tupleBy Products.processBy tab
 d-locality-31-holds = record { answers = refl; ending = refl }
 
 d-locality-32-holds : Holds d-locality-32
-unfolding run end outcome Answers.answer Answers.checksOf Answers.inRange Answers.forwardChecks Answers.backwardChecks Answers.rollbackChecks Answers.rollChecks refusal Answers.placesOf Answers.noPlaces Answers.tupleThere Answers.freshFree Answers.madeStays Answers.canUndo Answers.event Answers.netAfter Answers.undone Answers.touchedWord wordOf including touched any count Dependents.rounds Dependents.grow Dependents.closure Dependents.dependents depends forward madeBy takenBy localityBy againBy undoSet Products.target Products.fits Evaluate.targetOf Evaluate.actual Products.isReady Evaluate.fieldsReady Evaluate.isReady Match.meets Match.placeMeets Match.fieldMeets Match.bound Match.bindUpTo Match.bindOne all actOf madeKey tookTuple readTuple madeLocality product Products.continuation Products.variablesAfter Products.referencesAfter Products.secondMade Products.tupleMade Products.processMade tab
+unfolding run end outcome Answers.answer Answers.checksOf Answers.inRange Answers.forwardChecks Answers.backwardChecks Answers.rollbackChecks Answers.rollChecks refusal Answers.placesOf Answers.noPlaces Answers.tupleThere Answers.freshFree Answers.madeStays Answers.canUndo Answers.event Answers.netAfter Answers.undone Answers.touchedWord wordOf including touched any count Dependents.rounds Dependents.grow Dependents.closure Dependents.dependents depends forward madeBy takenBy localityBy againBy undoSet Products.targetBy Products.fits Evaluate.targetOf Evaluate.actual Products.readyBy Evaluate.fieldsReady Evaluate.isReady Match.meets Match.placeMeets Match.fieldMeets Match.bound Match.bindUpTo Match.bindOne all actOf madeKey tookTuple readTuple madeLocality product Products.continuedBy Products.variablesAfter Products.referencesAfter Products.secondBy Products.tupleBy Products.processBy tab
 d-locality-32-holds = record { answers = refl; ending = refl }
 
 a-equal-holds : Holds a-equal
-unfolding run end outcome Answers.answer Answers.checksOf Answers.inRange Answers.forwardChecks Answers.backwardChecks Answers.rollbackChecks Answers.rollChecks refusal Answers.placesOf Answers.noPlaces Answers.tupleThere Answers.freshFree Answers.madeStays Answers.canUndo Answers.event Answers.netAfter Answers.undone Answers.touchedWord wordOf including touched any count Dependents.rounds Dependents.grow Dependents.closure Dependents.dependents depends forward madeBy takenBy localityBy againBy undoSet Products.target Products.fits Evaluate.targetOf Evaluate.actual Products.isReady Evaluate.fieldsReady Evaluate.isReady Match.meets Match.placeMeets Match.fieldMeets Match.bound Match.bindUpTo Match.bindOne all actOf madeKey tookTuple readTuple madeLocality product Products.continuation Products.variablesAfter Products.referencesAfter Products.secondMade Products.tupleMade Products.processMade tab
+unfolding run end outcome Answers.answer Answers.checksOf Answers.inRange Answers.forwardChecks Answers.backwardChecks Answers.rollbackChecks Answers.rollChecks refusal Answers.placesOf Answers.noPlaces Answers.tupleThere Answers.freshFree Answers.madeStays Answers.canUndo Answers.event Answers.netAfter Answers.undone Answers.touchedWord wordOf including touched any count Dependents.rounds Dependents.grow Dependents.closure Dependents.dependents depends forward madeBy takenBy localityBy againBy undoSet Products.targetBy Products.fits Evaluate.targetOf Evaluate.actual Products.readyBy Evaluate.fieldsReady Evaluate.isReady Match.meets Match.placeMeets Match.fieldMeets Match.bound Match.bindUpTo Match.bindOne all actOf madeKey tookTuple readTuple madeLocality product Products.continuedBy Products.variablesAfter Products.referencesAfter Products.secondBy Products.tupleBy Products.processBy tab
 a-equal-holds = record { answers = refl; ending = refl }
 
 a-taken-holds : Holds a-taken
-unfolding run end outcome Answers.answer Answers.checksOf Answers.inRange Answers.forwardChecks Answers.backwardChecks Answers.rollbackChecks Answers.rollChecks refusal Answers.placesOf Answers.noPlaces Answers.tupleThere Answers.freshFree Answers.madeStays Answers.canUndo Answers.event Answers.netAfter Answers.undone Answers.touchedWord wordOf including touched any count Dependents.rounds Dependents.grow Dependents.closure Dependents.dependents depends forward madeBy takenBy localityBy againBy undoSet Products.target Products.fits Evaluate.targetOf Evaluate.actual Products.isReady Evaluate.fieldsReady Evaluate.isReady Match.meets Match.placeMeets Match.fieldMeets Match.bound Match.bindUpTo Match.bindOne all actOf madeKey tookTuple readTuple madeLocality product Products.continuation Products.variablesAfter Products.referencesAfter Products.secondMade Products.tupleMade Products.processMade tab
+unfolding run end outcome Answers.answer Answers.checksOf Answers.inRange Answers.forwardChecks Answers.backwardChecks Answers.rollbackChecks Answers.rollChecks refusal Answers.placesOf Answers.noPlaces Answers.tupleThere Answers.freshFree Answers.madeStays Answers.canUndo Answers.event Answers.netAfter Answers.undone Answers.touchedWord wordOf including touched any count Dependents.rounds Dependents.grow Dependents.closure Dependents.dependents depends forward madeBy takenBy localityBy againBy undoSet Products.targetBy Products.fits Evaluate.targetOf Evaluate.actual Products.readyBy Evaluate.fieldsReady Evaluate.isReady Match.meets Match.placeMeets Match.fieldMeets Match.bound Match.bindUpTo Match.bindOne all actOf madeKey tookTuple readTuple madeLocality product Products.continuedBy Products.variablesAfter Products.referencesAfter Products.secondBy Products.tupleBy Products.processBy tab
 a-taken-holds = record { answers = refl; ending = refl }
 
 a-far-holds : Holds a-far
-unfolding run end outcome Answers.answer Answers.checksOf Answers.inRange Answers.forwardChecks Answers.backwardChecks Answers.rollbackChecks Answers.rollChecks refusal Answers.placesOf Answers.noPlaces Answers.tupleThere Answers.freshFree Answers.madeStays Answers.canUndo Answers.event Answers.netAfter Answers.undone Answers.touchedWord wordOf including touched any count Dependents.rounds Dependents.grow Dependents.closure Dependents.dependents depends forward madeBy takenBy localityBy againBy undoSet Products.target Products.fits Evaluate.targetOf Evaluate.actual Products.isReady Evaluate.fieldsReady Evaluate.isReady Match.meets Match.placeMeets Match.fieldMeets Match.bound Match.bindUpTo Match.bindOne all actOf madeKey tookTuple readTuple madeLocality product Products.continuation Products.variablesAfter Products.referencesAfter Products.secondMade Products.tupleMade Products.processMade tab
+unfolding run end outcome Answers.answer Answers.checksOf Answers.inRange Answers.forwardChecks Answers.backwardChecks Answers.rollbackChecks Answers.rollChecks refusal Answers.placesOf Answers.noPlaces Answers.tupleThere Answers.freshFree Answers.madeStays Answers.canUndo Answers.event Answers.netAfter Answers.undone Answers.touchedWord wordOf including touched any count Dependents.rounds Dependents.grow Dependents.closure Dependents.dependents depends forward madeBy takenBy localityBy againBy undoSet Products.targetBy Products.fits Evaluate.targetOf Evaluate.actual Products.readyBy Evaluate.fieldsReady Evaluate.isReady Match.meets Match.placeMeets Match.fieldMeets Match.bound Match.bindUpTo Match.bindOne all actOf madeKey tookTuple readTuple madeLocality product Products.continuedBy Products.variablesAfter Products.referencesAfter Products.secondBy Products.tupleBy Products.processBy tab
 a-far-holds = record { answers = refl; ending = refl }
 
 a-out-of-range-holds : Holds a-out-of-range
-unfolding run end outcome Answers.answer Answers.checksOf Answers.inRange Answers.forwardChecks Answers.backwardChecks Answers.rollbackChecks Answers.rollChecks refusal Answers.placesOf Answers.noPlaces Answers.tupleThere Answers.freshFree Answers.madeStays Answers.canUndo Answers.event Answers.netAfter Answers.undone Answers.touchedWord wordOf including touched any count Dependents.rounds Dependents.grow Dependents.closure Dependents.dependents depends forward madeBy takenBy localityBy againBy undoSet Products.target Products.fits Evaluate.targetOf Evaluate.actual Products.isReady Evaluate.fieldsReady Evaluate.isReady Match.meets Match.placeMeets Match.fieldMeets Match.bound Match.bindUpTo Match.bindOne all actOf madeKey tookTuple readTuple madeLocality product Products.continuation Products.variablesAfter Products.referencesAfter Products.secondMade Products.tupleMade Products.processMade tab
+unfolding run end outcome Answers.answer Answers.checksOf Answers.inRange Answers.forwardChecks Answers.backwardChecks Answers.rollbackChecks Answers.rollChecks refusal Answers.placesOf Answers.noPlaces Answers.tupleThere Answers.freshFree Answers.madeStays Answers.canUndo Answers.event Answers.netAfter Answers.undone Answers.touchedWord wordOf including touched any count Dependents.rounds Dependents.grow Dependents.closure Dependents.dependents depends forward madeBy takenBy localityBy againBy undoSet Products.targetBy Products.fits Evaluate.targetOf Evaluate.actual Products.readyBy Evaluate.fieldsReady Evaluate.isReady Match.meets Match.placeMeets Match.fieldMeets Match.bound Match.bindUpTo Match.bindOne all actOf madeKey tookTuple readTuple madeLocality product Products.continuedBy Products.variablesAfter Products.referencesAfter Products.secondBy Products.tupleBy Products.processBy tab
 a-out-of-range-holds = record { answers = refl; ending = refl }
 
 split-holds : Holds split
-unfolding run end outcome Answers.answer Answers.checksOf Answers.inRange Answers.forwardChecks Answers.backwardChecks Answers.rollbackChecks Answers.rollChecks refusal Answers.placesOf Answers.noPlaces Answers.tupleThere Answers.freshFree Answers.madeStays Answers.canUndo Answers.event Answers.netAfter Answers.undone Answers.touchedWord wordOf including touched any count Dependents.rounds Dependents.grow Dependents.closure Dependents.dependents depends forward madeBy takenBy localityBy againBy undoSet Products.target Products.fits Evaluate.targetOf Evaluate.actual Products.isReady Evaluate.fieldsReady Evaluate.isReady Match.meets Match.placeMeets Match.fieldMeets Match.bound Match.bindUpTo Match.bindOne all actOf madeKey tookTuple readTuple madeLocality product Products.continuation Products.variablesAfter Products.referencesAfter Products.secondMade Products.tupleMade Products.processMade tab
+unfolding run end outcome Answers.answer Answers.checksOf Answers.inRange Answers.forwardChecks Answers.backwardChecks Answers.rollbackChecks Answers.rollChecks refusal Answers.placesOf Answers.noPlaces Answers.tupleThere Answers.freshFree Answers.madeStays Answers.canUndo Answers.event Answers.netAfter Answers.undone Answers.touchedWord wordOf including touched any count Dependents.rounds Dependents.grow Dependents.closure Dependents.dependents depends forward madeBy takenBy localityBy againBy undoSet Products.targetBy Products.fits Evaluate.targetOf Evaluate.actual Products.readyBy Evaluate.fieldsReady Evaluate.isReady Match.meets Match.placeMeets Match.fieldMeets Match.bound Match.bindUpTo Match.bindOne all actOf madeKey tookTuple readTuple madeLocality product Products.continuedBy Products.variablesAfter Products.referencesAfter Products.secondBy Products.tupleBy Products.processBy tab
 split-holds = record { answers = refl; ending = refl }
 
 split-back-holds : Holds split-back
-unfolding run end outcome Answers.answer Answers.checksOf Answers.inRange Answers.forwardChecks Answers.backwardChecks Answers.rollbackChecks Answers.rollChecks refusal Answers.placesOf Answers.noPlaces Answers.tupleThere Answers.freshFree Answers.madeStays Answers.canUndo Answers.event Answers.netAfter Answers.undone Answers.touchedWord wordOf including touched any count Dependents.rounds Dependents.grow Dependents.closure Dependents.dependents depends forward madeBy takenBy localityBy againBy undoSet Products.target Products.fits Evaluate.targetOf Evaluate.actual Products.isReady Evaluate.fieldsReady Evaluate.isReady Match.meets Match.placeMeets Match.fieldMeets Match.bound Match.bindUpTo Match.bindOne all actOf madeKey tookTuple readTuple madeLocality product Products.continuation Products.variablesAfter Products.referencesAfter Products.secondMade Products.tupleMade Products.processMade tab
+unfolding run end outcome Answers.answer Answers.checksOf Answers.inRange Answers.forwardChecks Answers.backwardChecks Answers.rollbackChecks Answers.rollChecks refusal Answers.placesOf Answers.noPlaces Answers.tupleThere Answers.freshFree Answers.madeStays Answers.canUndo Answers.event Answers.netAfter Answers.undone Answers.touchedWord wordOf including touched any count Dependents.rounds Dependents.grow Dependents.closure Dependents.dependents depends forward madeBy takenBy localityBy againBy undoSet Products.targetBy Products.fits Evaluate.targetOf Evaluate.actual Products.readyBy Evaluate.fieldsReady Evaluate.isReady Match.meets Match.placeMeets Match.fieldMeets Match.bound Match.bindUpTo Match.bindOne all actOf madeKey tookTuple readTuple madeLocality product Products.continuedBy Products.variablesAfter Products.referencesAfter Products.secondBy Products.tupleBy Products.processBy tab
 split-back-holds = record { answers = refl; ending = refl }
 
 read-matches-holds : Holds read-matches
-unfolding run end outcome Answers.answer Answers.checksOf Answers.inRange Answers.forwardChecks Answers.backwardChecks Answers.rollbackChecks Answers.rollChecks refusal Answers.placesOf Answers.noPlaces Answers.tupleThere Answers.freshFree Answers.madeStays Answers.canUndo Answers.event Answers.netAfter Answers.undone Answers.touchedWord wordOf including touched any count Dependents.rounds Dependents.grow Dependents.closure Dependents.dependents depends forward madeBy takenBy localityBy againBy undoSet Products.target Products.fits Evaluate.targetOf Evaluate.actual Products.isReady Evaluate.fieldsReady Evaluate.isReady Match.meets Match.placeMeets Match.fieldMeets Match.bound Match.bindUpTo Match.bindOne all actOf madeKey tookTuple readTuple madeLocality product Products.continuation Products.variablesAfter Products.referencesAfter Products.secondMade Products.tupleMade Products.processMade tab
+unfolding run end outcome Answers.answer Answers.checksOf Answers.inRange Answers.forwardChecks Answers.backwardChecks Answers.rollbackChecks Answers.rollChecks refusal Answers.placesOf Answers.noPlaces Answers.tupleThere Answers.freshFree Answers.madeStays Answers.canUndo Answers.event Answers.netAfter Answers.undone Answers.touchedWord wordOf including touched any count Dependents.rounds Dependents.grow Dependents.closure Dependents.dependents depends forward madeBy takenBy localityBy againBy undoSet Products.targetBy Products.fits Evaluate.targetOf Evaluate.actual Products.readyBy Evaluate.fieldsReady Evaluate.isReady Match.meets Match.placeMeets Match.fieldMeets Match.bound Match.bindUpTo Match.bindOne all actOf madeKey tookTuple readTuple madeLocality product Products.continuedBy Products.variablesAfter Products.referencesAfter Products.secondBy Products.tupleBy Products.processBy tab
 read-matches-holds = record { answers = refl; ending = refl }
 
 read-differs-holds : Holds read-differs
-unfolding run end outcome Answers.answer Answers.checksOf Answers.inRange Answers.forwardChecks Answers.backwardChecks Answers.rollbackChecks Answers.rollChecks refusal Answers.placesOf Answers.noPlaces Answers.tupleThere Answers.freshFree Answers.madeStays Answers.canUndo Answers.event Answers.netAfter Answers.undone Answers.touchedWord wordOf including touched any count Dependents.rounds Dependents.grow Dependents.closure Dependents.dependents depends forward madeBy takenBy localityBy againBy undoSet Products.target Products.fits Evaluate.targetOf Evaluate.actual Products.isReady Evaluate.fieldsReady Evaluate.isReady Match.meets Match.placeMeets Match.fieldMeets Match.bound Match.bindUpTo Match.bindOne all actOf madeKey tookTuple readTuple madeLocality product Products.continuation Products.variablesAfter Products.referencesAfter Products.secondMade Products.tupleMade Products.processMade tab
+unfolding run end outcome Answers.answer Answers.checksOf Answers.inRange Answers.forwardChecks Answers.backwardChecks Answers.rollbackChecks Answers.rollChecks refusal Answers.placesOf Answers.noPlaces Answers.tupleThere Answers.freshFree Answers.madeStays Answers.canUndo Answers.event Answers.netAfter Answers.undone Answers.touchedWord wordOf including touched any count Dependents.rounds Dependents.grow Dependents.closure Dependents.dependents depends forward madeBy takenBy localityBy againBy undoSet Products.targetBy Products.fits Evaluate.targetOf Evaluate.actual Products.readyBy Evaluate.fieldsReady Evaluate.isReady Match.meets Match.placeMeets Match.fieldMeets Match.bound Match.bindUpTo Match.bindOne all actOf madeKey tookTuple readTuple madeLocality product Products.continuedBy Products.variablesAfter Products.referencesAfter Products.secondBy Products.tupleBy Products.processBy tab
 read-differs-holds = record { answers = refl; ending = refl }
 
 -- every starred case of document 01

@@ -42,6 +42,10 @@ shaped-action a vs p =
           q .1 .1 .1 .1 .0 .1;
     }
 
+-- a node or a slot that a function is passed by itself
+pub shaped-own-action : (a : Action) (vs : List Val) → shadow (action.the-row .own a vs) → ShapedAction a
+shaped-own-action a vs p = shaped-action a vs p
+
 pub shaped-script : (s : Script) (vs : List Val) → shadow (script.the-row .own s vs) → ShapedScript s
 shaped-script s vs p =
     let a = p .1 .1 .0 in
@@ -66,6 +70,9 @@ shaped-slot s vs p =
           let q = each-at datum.the-field (s .contents) _ (c .1 .1) j datum0 (within (s .contents) 8 j e l) in
           q .1 .1 .1 .1 .0 .1;
     }
+
+pub shaped-own-slot : (s : Slot) (vs : List Val) → shadow (slot.the-row .own s vs) → ShapedSlot s
+shaped-own-slot s vs p = shaped-slot s vs p
 
 pub shaped-net : (n : Net) (vs : List Val) → shadow (net.the-row .own n vs) → ShapedNet n
 shaped-net n vs p =

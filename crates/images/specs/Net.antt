@@ -42,6 +42,14 @@ abbrev pub freeSlot : Slot
 freeSlot =
     record { kind = 0; locality = locality 0; node = node 0; count = 0; first = key 0; second = key 0; used = key 0; place = locality 0; contents = replicate 8 datum0; refs = replicate 4 (key 0) }
 
+-- the slot with this key; where there is no such key, nothing is held
+abbrev pub slotWith : Net → Key → Slot
+slotWith n k = pick (ltb (k .0) keyCount) (slotAt n (k .0)) freeSlot
+
+-- a record is of one of the kinds 1 to 4
+abbrev pub isFree : Slot → Bool
+isFree s = pick (eqb (s .kind) 0) true (ltb 4 (s .kind))
+
 abbrev pub emptyNet : Net
 emptyNet = record { present = localities 0; slots = replicate keyCount freeSlot }
 

@@ -10,7 +10,7 @@ ghost use Rattle.laws.specs.Parts.{flat};
 ghost use Rattle.laws.specs.Words.{word};
 ghost use Rattle.names.specs.Names.{key, node};
 ghost use Rattle.images.specs.Head.{byte, partAt, restZero, pairBytes};
-ghost use Rattle.images.specs.Net.{datum0, isTuple, nodeOrCount, firstBytes, slotBytes, netBytes, netWritten, writtenInto, isUnset, isSet, isDatum, variablesInRange, fieldOrBlank, dataFill, madeAre, refsAre, madeInRange, refsInRange, freeInRange, processInRange, tupleInRange, slotInRange, freeSlot};
+ghost use Rattle.images.specs.Net.{datum0, isTuple, nodeOrCount, firstBytes, slotBytes, netBytes, netWritten, writtenInto, isUnset, isSet, isDatum, variablesInRange, fieldOrBlank, dataFill, madeAre, refsAre, madeInRange, refsInRange, freeInRange, processInRange, tupleInRange, slotInRange, freeSlot, slotWith, isFree};
 ghost use Rattle.images.specs.Read.{datumOf, slotOf, slotsFormed, netOf, goodNet, badNet, readNet};
 use super::Datum;
 use super::Form;
@@ -174,7 +174,7 @@ fn data_fill(count: u8, contents: [Datum; Variable::COUNT]) -> bool
 }
 
 // What a slot made and used is this byte four times: 255 where nothing is held, and 0 in a free slot.
-fn made_are(b: u8, s: Slot) -> bool
+pub fn made_are(b: u8, s: Slot) -> bool
     ensures { λ r. ⌜ r ≡ madeAre b s ⌝ }
 {
     if s.first.0 != b {
@@ -370,6 +370,27 @@ pub fn free_slot() -> Slot
         }; Variable::COUNT],
         refs: [Key(0); Reference::COUNT],
     }
+}
+
+// The slot with this key; where there is no such key, nothing is held.
+pub fn slot_with(n: Net, k: Key) -> Slot
+    ensures { λ r. ⌜ r ≡ slotWith n k ⌝ }
+{
+    if k.is_key() {
+        let i = k.0 as usize;
+        return n.slots[i];
+    }
+    free_slot()
+}
+
+// Whether the slot holds no record. A kind that is none's counts as free; no image that was read has one.
+pub fn is_free(s: Slot) -> bool
+    ensures { λ r. ⌜ r ≡ isFree s ⌝ }
+{
+    if s.kind == Slot::FREE {
+        return true;
+    }
+    Slot::CONSUMED < s.kind
 }
 
 fn refused() -> NetRead

@@ -1,11 +1,11 @@
 -- A word as the set of the places of its bits, at any width w.
 -- In order: `member`, `including`, `excluding`; the code's shifts and masks (`one-shl`, `and-one`); the bits of `bitOr`, `bitAnd`, a
--- power of two and a complement; members after `including` and `excluding`, at the same place and at another; two words with the same
+-- power of two and a complement; members after `including` and `excluding`, at the same place and at another, and of two words' `bitOr` and `bitAnd`; two words with the same
 -- members are one (`same-members`); the empty set.
 -- Not here: `bitOr` and `bitAnd` by steps, shifts and bounds (`lib.Bits`), powers of two (`lib.Pow`).
 -- Assumes nothing.
 use mathlib.Core.Path.{_≡_, refl, ap, sym, _∙_}
-use mathlib.Core.Bool.{Bool, true, false}
+use mathlib.Core.Bool.{Bool, true, false, _&&_, _||_}
 use mathlib.Core.Logic.{_≢_}
 use Prim.Native.Nat.{ℕ, zero, suc, _+_, _-_, _*_, _/_, _%_, _^_, _<_, _≤_, min, max}
 use native.Mathlib.Nat.{one-mul, mod-eq-of-lt, div-self, div-eq-of-lt, div-one, zero-div, pow-suc, max-zero, min-zero, le-of-suc-le-suc, not-suc-le-zero, div-div-eq-div-mul, mul-comm}
@@ -166,6 +166,33 @@ one-or-none a b p q r =
     none zero l n = refl
     none (suc zero) l n = absurd (n refl)
     none (suc (suc x)) l n = absurd (omega arith)
+
+-- the members of either word, and of both
+pub member-or : (s t n : ℕ) → member (bitOr s t) n ≡ (member s n || member t n)
+unfolding member
+member-or s t n = ap (λ (x : ℕ). eqb x 1) (bit-or s t n) ∙ one-of (bit s n) (bit t n) (bit-lt s n) (bit-lt t n)
+  where
+    one-of : (a b : ℕ) → a < 2 → b < 2 → eqb (max a b) 1 ≡ (eqb a 1 || eqb b 1)
+    one-of zero zero p q = refl
+    one-of zero (suc zero) p q = refl
+    one-of zero (suc (suc b)) p q = absurd (omega arith)
+    one-of (suc zero) zero p q = refl
+    one-of (suc zero) (suc zero) p q = refl
+    one-of (suc zero) (suc (suc b)) p q = absurd (omega arith)
+    one-of (suc (suc a)) b p q = absurd (omega arith)
+
+pub member-and : (s t n : ℕ) → member (bitAnd s t) n ≡ (member s n && member t n)
+unfolding member
+member-and s t n = ap (λ (x : ℕ). eqb x 1) (bit-and s t n) ∙ both-of (bit s n) (bit t n) (bit-lt s n) (bit-lt t n)
+  where
+    both-of : (a b : ℕ) → a < 2 → b < 2 → eqb (min a b) 1 ≡ (eqb a 1 && eqb b 1)
+    both-of zero zero p q = refl
+    both-of zero (suc zero) p q = refl
+    both-of zero (suc (suc b)) p q = absurd (omega arith)
+    both-of (suc zero) zero p q = refl
+    both-of (suc zero) (suc zero) p q = refl
+    both-of (suc zero) (suc (suc b)) p q = absurd (omega arith)
+    both-of (suc (suc a)) b p q = absurd (omega arith)
 
 -- two words with the same members are one
 pub same-members : (w s t : ℕ) → s < 2 ^ w → t < 2 ^ w → ((n : ℕ) → n < w → member s n ≡ member t n) → s ≡ t

@@ -51,7 +51,8 @@ fn variable_of(vars: [Datum; Variable::COUNT], v: u32) -> Datum
     vars[i]
 }
 
-fn actual_of(vars: [Datum; Variable::COUNT], f: Field) -> Datum
+// What the field stands for as a datum: unset where the variable is.
+pub fn actual_of(vars: [Datum; Variable::COUNT], f: Field) -> Datum
     ensures { λ r. ⌜ r ≡ actual vars f ⌝ }
 {
     if f.tag == Field::VARIABLE {
@@ -171,7 +172,8 @@ fn template_meets(
     true
 }
 
-fn with_variable(vars: [Datum; Variable::COUNT], v: u32, d: Datum) -> [Datum; Variable::COUNT]
+// The variables with this one set.
+pub fn with_variable(vars: [Datum; Variable::COUNT], v: u32, d: Datum) -> [Datum; Variable::COUNT]
     ensures { λ r. ⌜ r ≡ withVariable vars v d ⌝ }
 {
     if Field::NAMES <= v {
@@ -192,7 +194,8 @@ fn bind_one(vars: [Datum; Variable::COUNT], f: Field, d: Datum) -> [Datum; Varia
     with_variable(vars, f.number, d)
 }
 
-fn bind(
+// The variables with every formal of the node's template bound to the tuple's field.
+pub fn bind(
     vars: [Datum; Variable::COUNT],
     a: Action,
     tuple: [Datum; Variable::COUNT],

@@ -5,6 +5,7 @@ ghost use Prim.Native.Nat.{_<_};
 ghost use lib.Dec.{ltb};
 ghost use Rattle.names.specs.Names.{localityCount, belowOrNone, isKey, isKeyOrNone, isLocality, isLocalityOrNone, isNode, isReferenceOrNone, keyOf, keyOrNone, localityOf, localityOrNone, variableOf, nodeOf};
 ghost use Rattle.names.specs.Localities.{localities, holds, joined, parted};
+ghost use Rattle.names.specs.KeySets.{isIn, including, excluding, either, both, isEmpty};
 
 // The mark for none, where that may stand.
 pub const NONE: u8 = 255;
@@ -23,6 +24,9 @@ pub struct Node(pub u8);
 
 // One of a process's four references, 0..3, or none.
 pub struct Reference(pub u8);
+
+// A set of keys: bit n is key n.
+pub struct Keys(pub u64);
 
 // A set of localities: bit n is locality n.
 pub struct Localities(pub u32);
@@ -221,5 +225,48 @@ impl Localities {
         ensures { λ r. ⌜ r ≡ parted self l ⌝ }
     {
         Localities(self.0 & !(1 << l.0))
+    }
+}
+
+impl Keys {
+    pub const EMPTY: Keys = Keys(0);
+
+    pub fn has(self, k: Key) -> bool
+        requires { ⌜ k .0 < 64 ⌝ }
+        ensures { λ r. ⌜ r ≡ isIn self k ⌝ }
+    {
+        (self.0 >> k.0) & 1 == 1
+    }
+
+    pub fn with(self, k: Key) -> Keys
+        requires { ⌜ k .0 < 64 ⌝ }
+        ensures { λ r. ⌜ r ≡ including self k ⌝ }
+    {
+        Keys(self.0 | (1 << k.0))
+    }
+
+    pub fn without(self, k: Key) -> Keys
+        requires { ⌜ k .0 < 64 ⌝ }
+        ensures { λ r. ⌜ r ≡ excluding self k ⌝ }
+    {
+        Keys(self.0 & !(1 << k.0))
+    }
+
+    pub fn either(self, others: Keys) -> Keys
+        ensures { λ r. ⌜ r ≡ either self others ⌝ }
+    {
+        Keys(self.0 | others.0)
+    }
+
+    pub fn both(self, others: Keys) -> Keys
+        ensures { λ r. ⌜ r ≡ both self others ⌝ }
+    {
+        Keys(self.0 & others.0)
+    }
+
+    pub fn is_empty(self) -> bool
+        ensures { λ r. ⌜ r ≡ isEmpty self ⌝ }
+    {
+        self.0 == 0
     }
 }

@@ -2,7 +2,7 @@
 --
 -- In order: tests together; of each test, what it says (`..-says`) and when it holds (`..-holds`); the law (`accepted-test`).
 -- Assumes nothing.
-use mathlib.Core.Path.{_≡_, refl, sym, _∙_, ap}
+use mathlib.Core.Path.{_≡_, refl, sym, _∙_, ap, subst}
 use mathlib.Core.Logic.{⊎-elim, _↔_, by-cases}
 use mathlib.Core.Bool.{Bool, true, false, not, _&&_, _||_, false≢true, true≢false}
 use Prim.Native.Nat.{ℕ, _<_}
@@ -13,14 +13,15 @@ use borrow.Author.Tests.{eqb-true, eq-eqb, not-true, eqb-false, ne-eqb, ltb-true
 use Rattle.laws.specs.Choice.{cases, clash, and-left, and-right, and-both, sameb, sameb-eq, pick, or-left, or-right, or-cases, fails, _⇒_, told, tells}
 use Rattle.laws.specs.Checks.{all, all-of, all-at}
 use Rattle.order.specs.KeySets.{_∈_, _∉_, any, any-of, any-some}
+use Rattle.order.specs.Distinct.{distinct, distinct-apart, apart-distinct}
 use Rattle.order.specs.Peeling.{acyclic-iff}
-use Rattle.nets.specs.Rules.{Rules, none, acts, aims, uses, isNewloc, secondOf, isThere}
-use Rattle.nets.specs.Net.{isHeld, kindNumber, isLiveTuple, Kind, free, live, past, tuple, consumed, isConsumed, Slot, Net, freeSlot, fresh, forget, events, held, madeKey, tookTuple, madeLocality, makes, takes, isMade, isMadeLocality, depends}
+use Rattle.nets.specs.Rules.{Rules, take-uses, none, acts, aims, uses, isNewloc, secondOf, isThere}
+use Rattle.nets.specs.Net.{isHeld, kindNumber, isLiveTuple, Kind, free, live, past, tuple, consumed, isConsumed, Slot, Net, freeSlot, fresh, forget, events, held, madeKey, tookTuple, madeLocality, makes, takes, makesLocality, isMade, isMadeLocality, depends}
 use Rattle.nets.specs.Rule.{met, product, Places, Rule}
 use Rattle.nets.specs.Accepted.{Bounded, Formed, Agrees, Root, Accepted}
-use Rattle.nets.specs.Records.{same-kind, OfEvents, same-slot, made-past, made-below, made-cases, took-past, took-is, locality-past, locality-is}
+use Rattle.nets.specs.Records.{same-kind, OfEvents, same-slot, made-past, made-below, made-cases, took-past, took-act, took-is, locality-past, locality-makeable}
 use Rattle.nets.specs.Events.{bounded-held, bounded-event, bounded-among}
-use Rattle.nets.specs.Accepting.{ruled, saidOnce, onceEach, tuplesRight, localitiesRight, rootsRight, sameSlot, formedAs, formed, agreed, accepted, placed, fitting}
+use Rattle.nets.specs.Accepting.{ruled, onceEach, tuplesRight, localitiesRight, rootsRight, sameSlot, formedAs, formed, agreed, accepted, placed, fitting}
 
 -- ---- tests together
 
@@ -164,26 +165,16 @@ module _ {R : Rules} (same : R .Body → R .Body → Bool) (same-iff : (a b : R 
 
 module _ {R : Rules} where
   module _ (n : Net R) (bound : Bounded n) where
-    once-says : (Q : ℕ → Slot R → Bool) → ((k : ℕ) → OfEvents (Q k)) → (place : Slot R → ℕ) → saidOnce Q place n ≡ true
-        → (e f k : ℕ) → Q k (n .slot e) ≡ true → Q k (n .slot f) ≡ true → place (n .slot e) ≡ k → e ≡ f
-    unfolding saidOnce
-    once-says Q of place h e f k p q z =
-        let at-e : Q (place (n .slot e)) (n .slot e) ≡ true = ap (λ (j : ℕ). Q j (n .slot e)) z ∙ p in
-        let at-f : Q (place (n .slot e)) (n .slot f) ≡ true = ap (λ (j : ℕ). Q j (n .slot f)) z ∙ q in
-        let all-f =
-        told (Q (place (n .slot e)) (n .slot e)) _
-        (all-at (R .keys) (λ e. Q (place (n .slot e)) (n .slot e) ⇒ all (R .keys) (λ f. Q (place (n .slot e)) (n .slot f) ⇒ eqb e f)) h e
-        (bounded-event n bound e (of k (n .slot e) p))) at-e in
-        eqb-true e f
-        (told (Q (place (n .slot e)) (n .slot f)) _
-        (all-at (R .keys) (λ f. Q (place (n .slot e)) (n .slot f) ⇒ eqb e f) all-f f (bounded-event n bound f (of k (n .slot f) q))) at-f)
+    -- who says the same is the same: said of the events below the number of keys, and of numbers below K, that is all
+    once-says : (K : ℕ) (Q : ℕ → Slot R → Bool) → ((k : ℕ) → OfEvents (Q k)) → ((e k : ℕ) → Q k (n .slot e) ≡ true → k < K)
+        → distinct K (R .keys) (λ e k. Q k (n .slot e)) ≡ true → (e f k : ℕ) → Q k (n .slot e) ≡ true → Q k (n .slot f) ≡ true → e ≡ f
+    once-says K Q of below h e f k p q =
+        distinct-apart K (R .keys) (λ e k. Q k (n .slot e)) h e f k (bounded-event n bound e (of k (n .slot e) p))
+        (bounded-event n bound f (of k (n .slot f) q)) (below e k p) p q
 
-    once-holds : (Q : ℕ → Slot R → Bool) (place : Slot R → ℕ) → ((e f k : ℕ) → Q k (n .slot e) ≡ true → Q k (n .slot f) ≡ true → e ≡ f)
-        → saidOnce Q place n ≡ true
-    unfolding saidOnce
-    once-holds Q place h =
-        all-of (R .keys) _ (λ e l. tells (Q (place (n .slot e)) (n .slot e)) _ (λ p.
-        all-of (R .keys) _ (λ f b. tells (Q (place (n .slot e)) (n .slot f)) _ (λ q. eq-eqb e f (h e f (place (n .slot e)) p q)))))
+    once-holds : (K : ℕ) (Q : ℕ → Slot R → Bool) → ((e f k : ℕ) → Q k (n .slot e) ≡ true → Q k (n .slot f) ≡ true → e ≡ f)
+        → distinct K (R .keys) (λ e k. Q k (n .slot e)) ≡ true
+    once-holds K Q h = apart-distinct K (R .keys) (λ e k. Q k (n .slot e)) (λ e f k _ _ _. h e f k)
 
     roots-says : rootsRight n ≡ true → (k : ℕ) → k ∈ held n → k ∉ isMade n → Root n (n .slot k)
     unfolding rootsRight
@@ -271,6 +262,11 @@ module _ {R : Rules} where
 
 module _ {R : Rules} (same : R .Body → R .Body → Bool) (same-iff : (a b : R .Body) → (same a b ≡ true) ↔ (a ≡ b)) (L : ℕ) (few : (l : ℕ) → l ∈ R .makeable → l < L) where
   module _ (n : Net R) (bound : Bounded n) where
+    agreement : all (R .keys) (λ e. events n e ⇒ agreed same n e) ≡ true → (e : ℕ) → e ∈ events n → Agrees n e (n .slot e)
+    agreement h e p =
+        agreed-says same same-iff n e
+        (told (events n e) _ (all-at (R .keys) (λ e. events n e ⇒ agreed same n e) h e (bounded-event n bound e p)) p)
+
     says : accepted same L n ≡ true → Accepted n
     unfolding accepted onceEach formed
     says h =
@@ -278,28 +274,31 @@ module _ {R : Rules} (same : R .Body → R .Body → Bool) (same-iff : (a b : R 
         let agree = all (R .keys) (λ e. events n e ⇒ agreed same n e) in
         let h₁ = and-right forms _ h in
         let h₂ = and-right agree _ h₁ in
-        let h₃ = and-right (onceEach n) _ h₂ in
+        let h₃ = and-right (onceEach L n) _ h₂ in
         let h₄ = and-right (tuplesRight n) _ h₃ in
         let h₅ = and-right (localitiesRight L n) _ h₄ in
-        let once = and-left (onceEach n) _ h₂ in
-        let once₁ = and-right (saidOnce madeKey (λ s. s .first) n) _ once in
-        let once₂ = and-right (saidOnce madeKey (λ s. s .second) n) _ once₁ in
+        let once = and-left (onceEach L n) _ h₂ in
+        let once₁ = and-right (distinct (R .keys) (R .keys) (makes n)) _ once in
         record {
           bound = bound;
           formed = λ k.
               by-cases (decLt k (R .keys))
               (λ l. formed-says same same-iff (n .slot k .kind) (n .slot k) (all-at (R .keys) (λ k. formed same (n .slot k)) (and-left forms _ h) k l))
               (λ l. free-formed k (bound k (omega arith)));
-          agrees = λ e p.
-              agreed-says same same-iff n e
-              (told (events n e) _ (all-at (R .keys) (λ e. events n e ⇒ agreed same n e) (and-left agree _ h₁) e (bounded-event n bound e p)) p);
-          key-once = λ e f k p q.
-              ⊎-elim (once-says n bound madeKey made-past (λ s. s .first) (and-left (saidOnce madeKey (λ s. s .first) n) _ once) e f k p q)
-              (once-says n bound madeKey made-past (λ s. s .second) (and-left (saidOnce madeKey (λ s. s .second) n) _ once₁) e f k p q)
-              (made-cases k (n .slot e) p);
-          locality-once = λ e f l p q. once-says n bound madeLocality locality-past (λ s. s .place) (and-left (saidOnce madeLocality (λ s. s .place) n) _ once₂) e f l p q (locality-is l (n .slot e) p);
+          agrees = agreement (and-left agree _ h₁);
+          key-once = once-says n bound (R .keys) madeKey made-past (λ e k. made-below k (n .slot e)) (and-left (distinct (R .keys) (R .keys) (makes n)) _ once);
+          locality-once =
+              once-says n bound L madeLocality locality-past
+              (λ e l p. few l (locality-makeable l (n .slot e) (agreement (and-left agree _ h₁) e (locality-past l (n .slot e) p) .rule .places) p))
+              (and-left (distinct L (R .keys) (makesLocality n)) _ once₁);
           consumed-taken = consumed-says n bound (and-left (tuplesRight n) _ h₃);
-          taken-once = λ f g k p q. once-says n bound tookTuple took-past (λ s. s .used) (and-right (saidOnce madeLocality (λ s. s .place) n) _ once₂) f g k p q (took-is k (n .slot f) p);
+          taken-once =
+              once-says n bound (R .keys) tookTuple took-past
+              (λ f k p.
+              let places = agreement (and-left agree _ h₁) f (took-past k (n .slot f) p) .rule .places in
+              let below = places .used (take-uses (R .act (n .slot f .body)) (took-act k (n .slot f) p)) in
+              subst (λ (j : ℕ). j < R .keys) (took-is k (n .slot f) p) below)
+              (and-right (distinct L (R .keys) (makesLocality n)) _ once₁);
           live-untaken = untaken-says n bound (and-left (tuplesRight n) _ h₃);
           present-made = localities-says n bound L few (and-left (localitiesRight L n) _ h₄);
           roots = roots-says n bound (and-left (rootsRight n) _ h₅);
@@ -315,9 +314,8 @@ module _ {R : Rules} (same : R .Body → R .Body → Bool) (same-iff : (a b : R 
         and-three (all-of (R .keys) _ (λ k l. formed-holds same same-iff (n .slot k .kind) (n .slot k) (ok .formed k)))
         (all-of (R .keys) _ (λ e l. tells (events n e) _ (λ p. agreed-holds same same-iff n e (ok .agrees e p))))
         (and-three
-        (and-three (once-holds n bound madeKey (λ s. s .first) (ok .key-once)) (once-holds n bound madeKey (λ s. s .second) (ok .key-once))
-        (and-both (saidOnce madeLocality (λ s. s .place) n) _ (once-holds n bound madeLocality (λ s. s .place) (ok .locality-once))
-        (once-holds n bound tookTuple (λ s. s .used) (ok .taken-once))))
+        (and-three (once-holds n bound (R .keys) madeKey (ok .key-once)) (once-holds n bound L madeLocality (ok .locality-once))
+        (once-holds n bound (R .keys) tookTuple (ok .taken-once)))
         (tuples-holds n bound (ok .consumed-taken) (ok .live-untaken))
         (and-three (localities-holds n bound L (ok .present-made)) (roots-holds n bound (ok .roots))
         (acyclic-iff (R .keys) (depends n) (events n) (bounded-among n bound) .1 (ok .no-cycle))))

@@ -1,7 +1,7 @@
 -- Which nets are accepted, as a test that computes. Nothing here must be believed: `Accepted` is the statement, and `AcceptedTest` proves
 -- the test true exactly when it holds. It needs a test of equal contents (`same`), and a number L above all localities that need a maker.
 --
--- In order: an event's places and rule (`placed`, `fitting`, `ruled`); said by one event alone (`saidOnce`, `onceEach`); tuples,
+-- In order: an event's places and rule (`placed`, `fitting`, `ruled`); said by one event alone (`onceEach`); tuples,
 -- localities and roots as they must be (`tuplesRight`, `localitiesRight`, `rootsRight`); records that are the same (`sameSlot`); the form
 -- of a slot (`formed`); an event and what it made (`agreed`); `accepted`.
 -- Assumes nothing.
@@ -11,9 +11,10 @@ use lib.Dec.{eqb, ltb}
 use Rattle.laws.specs.Choice.{pick, sameb, _⇒_}
 use Rattle.laws.specs.Checks.{all}
 use Rattle.order.specs.KeySets.{any}
+use Rattle.order.specs.Distinct.{distinct}
 use Rattle.order.specs.Peeling.{acyclic}
 use Rattle.nets.specs.Rules.{Rules, none, acts, aims, uses, isNewloc, secondOf, isThere}
-use Rattle.nets.specs.Net.{isLiveTuple, kindNumber, Kind, free, live, past, tuple, consumed, Net, events, makes, isConsumed, Slot, freeSlot, fresh, forget, held, madeKey, tookTuple, madeLocality, takes, isMade, isMadeLocality, depends}
+use Rattle.nets.specs.Net.{isLiveTuple, kindNumber, Kind, free, live, past, tuple, consumed, Net, events, isConsumed, Slot, freeSlot, fresh, forget, held, makes, takes, makesLocality, isMade, isMadeLocality, depends}
 use Rattle.nets.specs.Rule.{met, product}
 
 module _ {R : Rules} where
@@ -41,16 +42,11 @@ module _ {R : Rules} where
 
   -- ---- the net as a whole
 
-  -- what an event's record says of the number that stands at a place of it, no other's says
-  unfoldable pub saidOnce : (ℕ → Slot R → Bool) → (Slot R → ℕ) → Net R → Bool
-  saidOnce Q place n =
-      all (R .keys) (λ e. Q (place (n .slot e)) (n .slot e) ⇒ all (R .keys) (λ f. Q (place (n .slot e)) (n .slot f) ⇒ eqb e f))
-
-  -- a key is made at most once, a locality too, and a tuple taken
-  unfoldable pub onceEach : Net R → Bool
-  onceEach n =
-      saidOnce madeKey (λ s. s .first) n &&
-      (saidOnce madeKey (λ s. s .second) n && (saidOnce madeLocality (λ s. s .place) n && saidOnce tookTuple (λ s. s .used) n))
+  -- a key is made at most once, a locality too, and a tuple taken: no two events say the same; all localities that are made are below L
+  unfoldable pub onceEach : ℕ → Net R → Bool
+  onceEach L n =
+      distinct (R .keys) (R .keys) (makes n) &&
+      (distinct L (R .keys) (makesLocality n) && distinct (R .keys) (R .keys) (takes n))
 
   -- a consumed tuple was taken, and what was taken is no live tuple
   unfoldable pub tuplesRight : Net R → Bool
@@ -97,4 +93,4 @@ module _ {R : Rules} (same : R .Body → R .Body → Bool) where
   accepted L n =
       all (R .keys) (λ k. formed (n .slot k)) &&
       (all (R .keys) (λ e. events n e ⇒ agreed n e) &&
-      (onceEach n && (tuplesRight n && (localitiesRight L n && (rootsRight n && acyclic (R .keys) (depends n) (events n))))))
+      (onceEach L n && (tuplesRight n && (localitiesRight L n && (rootsRight n && acyclic (R .keys) (depends n) (events n))))))

@@ -17,6 +17,7 @@ use Rattle.laws.specs.Checks.{all}
 use Rattle.order.specs.KeySets.{any, any-not, count}
 use Rattle.order.specs.Dependents as D
 use Rattle.order.specs.Peeling.{last, peel, acyclic}
+use Rattle.order.specs.Distinct
 use Rattle.nets.specs.Rules.{Rules, Lawful, none, Act, number, nil, out, take}
 use Rattle.nets.specs.Net.{free, live, consumed, Slot, Net, freeSlot, fresh, forget, madeKey, tookTuple, readTuple, madeLocality, events, makes, takes, makesLocality, depends}
 use Rattle.nets.specs.Rule.{product}
@@ -26,7 +27,7 @@ use Rattle.nets.specs.Accepted.{Formed, Accepted}
 use Rattle.nets.specs.Records.{OfEvents, made-past, made-below, made-cases, took-past, locality-past}
 use Rattle.nets.specs.Events.{depends-cause}
 use Rattle.nets.specs.Onward.{forward-accepted}
-use Rattle.nets.specs.Accepting.{placed, fitting, ruled, saidOnce, onceEach, tuplesRight, localitiesRight, rootsRight, sameSlot, formed, agreed, accepted}
+use Rattle.nets.specs.Accepting.{placed, fitting, ruled, onceEach, tuplesRight, localitiesRight, rootsRight, sameSlot, formed, agreed, accepted}
 
 abbrev headOf : List Act → Act
 headOf [] = nil
@@ -227,7 +228,7 @@ sameActs (a ∷ l) [] = false
 sameActs (a ∷ l) (b ∷ m) = eqb (number a) (number b) && sameActs l m
 
 pub twice-tested : accepted sameActs 9 twice ≡ true
-unfolding accepted formed agreed ruled placed fitting sameSlot onceEach saidOnce tuplesRight localitiesRight rootsRight acyclic peel last D.rounds all any depends forward product madeKey tookTuple readTuple madeLocality
+unfolding accepted formed agreed ruled placed fitting sameSlot onceEach Distinct.distinct tuplesRight localitiesRight rootsRight acyclic peel last D.rounds all any depends forward product madeKey tookTuple readTuple madeLocality
 twice-tested = refl
 
 -- the tuple that the in took, live again while the in is past
@@ -235,5 +236,5 @@ abbrev torn : Net lists
 torn = record { present = twice .present; slot = λ k. pick (eqb k 2) (forget (twice .slot k)) (twice .slot k) }
 
 pub torn-tested : accepted sameActs 9 torn ≡ false
-unfolding accepted formed agreed ruled placed fitting sameSlot onceEach saidOnce tuplesRight localitiesRight rootsRight acyclic peel last D.rounds all any depends forward product madeKey tookTuple readTuple madeLocality
+unfolding accepted formed agreed ruled placed fitting sameSlot onceEach Distinct.distinct tuplesRight localitiesRight rootsRight acyclic peel last D.rounds all any depends forward product madeKey tookTuple readTuple madeLocality
 torn-tested = refl

@@ -1,5 +1,6 @@
 -- Finite graphs over keys below a number n: what depends on what, in which orders it may be taken away, and that the order is free.
 pub mod KeySets
+pub mod Distinct
 pub mod Words
 pub mod Graphs
 pub mod Dependents

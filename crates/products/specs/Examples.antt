@@ -19,7 +19,7 @@ use Rattle.matching.specs.Evaluate
 use Rattle.matching.specs.Evaluate.{targetOf, actual, fieldsReady}
 use Rattle.matching.specs.Match.{meets, placeMeets, fieldMeets, bound, bindUpTo, bindOne}
 use Rattle.products.specs.Body.{Body}
-use Rattle.products.specs.Products.{target, isReady, fits, variablesAfter, referencesAfter, continuation, tupleMade, processMade, secondMade}
+use Rattle.products.specs.Products.{target, isReady, fits, variablesAfter, referencesAfter, continuation, tupleMade, processMade, secondMade, continuedBy, processBy, readyBy, secondBy, targetBy, tupleBy}
 
 -- 0 out ⟨6, locality 1, variable 0⟩@2 with reference 1; 1 in ⟨!x3, !u4⟩@variable 1 with reference 2; 2 read ⟨variable 0, locality 3⟩@2;
 -- 3 newloc variable 5 with reference 0; 4 eval 7 @variable 1 with reference 3; 5 split 8, 9; each goes on at 10
@@ -65,21 +65,21 @@ next p = continuation script (key 20) (at p) met (locality 30)
 
 -- "the node's reference, if any, takes the old key"
 out-goes-on : next 0 ≡ goes 10 vars (refs 50 20 none none)
-unfolding continuation variablesAfter referencesAfter
+unfolding continuedBy variablesAfter referencesAfter
 out-goes-on = refl
 
 -- "out: 4 new tuple at the target"
 out-makes : secondMade script (at 0) ≡ tuple (value 6 ∷ place 1 ∷ value 40 ∷ []) 2
-unfolding secondMade tupleMade target targetOf actual tab
+unfolding secondBy tupleBy targetBy targetOf actual tab
 out-makes = refl
 
 -- "an in or read binds its formals"; an in takes its reference too
 in-goes-on : next 1 ≡ goes 10 (value 40 ∷ place 9 ∷ datum0 ∷ value 8 ∷ place 12 ∷ replicate 3 datum0) (refs 50 51 20 none)
-unfolding continuation variablesAfter referencesAfter bound bindUpTo bindOne
+unfolding continuedBy variablesAfter referencesAfter bound bindUpTo bindOne
 in-goes-on = refl
 
 in-at : target script (at 1) ≡ 9
-unfolding target targetOf actual
+unfolding targetBy targetOf actual
 in-at = refl
 
 in-meets : fits script (at 1) met ≡ true
@@ -88,7 +88,7 @@ in-meets = refl
 
 -- a read with no reference and no formal changes nothing
 read-goes-on : next 2 ≡ goes 10 vars (refs 50 51 none none)
-unfolding continuation variablesAfter referencesAfter bound bindUpTo bindOne
+unfolding continuedBy variablesAfter referencesAfter bound bindUpTo bindOne
 read-goes-on = refl
 
 -- an actual matches the same kind and number alone: ⟨40, locality 3⟩, and neither ⟨40, 3⟩ nor ⟨41, locality 3⟩ nor one field more
@@ -110,25 +110,25 @@ read-differs-in-count = refl
 
 -- "newloc binds its variable"
 newloc-goes-on : next 3 ≡ goes 10 (value 40 ∷ place 9 ∷ replicate 3 datum0 ++ place 30 ∷ replicate 2 datum0) (refs 20 51 none none)
-unfolding continuation variablesAfter referencesAfter
+unfolding continuedBy variablesAfter referencesAfter
 newloc-goes-on = refl
 
 eval-goes-on : next 4 ≡ goes 10 vars (refs 50 51 none 20)
-unfolding continuation variablesAfter referencesAfter
+unfolding continuedBy variablesAfter referencesAfter
 eval-goes-on = refl
 
 -- "a process at the target, node other, variables and references as before the step, without the new reference"
 eval-makes : secondMade script (at 4) ≡ record { locality = locality 9; node = node 7; count = 0; contents = vars; refs = refs 50 51 none none }
-unfolding secondMade processMade target targetOf actual
+unfolding secondBy processBy targetBy targetOf actual
 eval-makes = refl
 
 -- "split: 3 left, 4 right, both unchanged otherwise"
 split-goes-left : next 5 ≡ goes 8 vars (refs 50 51 none none)
-unfolding continuation variablesAfter referencesAfter
+unfolding continuedBy variablesAfter referencesAfter
 split-goes-left = refl
 
 split-goes-right : secondMade script (at 5) ≡ goes 9 vars (refs 50 51 none none)
-unfolding secondMade processMade
+unfolding secondBy processBy
 split-goes-right = refl
 
 -- an unset variable as an actual field is not ready, and as a target neither
@@ -136,5 +136,5 @@ unset : Body
 unset = record { locality = locality 4; node = node 2; count = 0; contents = replicate 8 datum0; refs = refs none none none none }
 
 read-not-ready : isReady script unset ≡ false
-unfolding unset isReady targetOf actual fieldsReady Evaluate.isReady all
+unfolding unset readyBy targetOf actual fieldsReady Evaluate.isReady all
 read-not-ready = refl

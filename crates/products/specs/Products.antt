@@ -14,14 +14,18 @@ use Rattle.names.specs.declared.Key.{Key}
 use Rattle.names.specs.declared.Locality.{Locality}
 use Rattle.images.specs.Script.{actionAt, fieldAt}
 use Rattle.images.specs.Net.{datum0}
+use Rattle.images.specs.declared.Field.{Field}
 use Rattle.images.specs.declared.Action.{Action}
 use Rattle.images.specs.declared.Script.{Script}
 use Rattle.images.specs.declared.Datum.{Datum}
+use Rattle.images.specs.declared.Slot.{Slot}
 use Rattle.matching.specs.Evaluate.{actual, targetOf, fieldsReady}
 use Rattle.matching.specs.Match.{meets, bound, withVariable}
 use Rattle.matching.specs.declared.Target.{Target}
 use Rattle.matching.specs.declared.Target.the-variants as Target
-use Rattle.products.specs.Body.{Body}
+use Rattle.products.specs.Body.{Body, liveProcess, liveTuple}
+use Rattle.products.specs.declared.Readiness.{Readiness}
+use Rattle.products.specs.declared.Readiness.the-variants as Readiness
 
 -- ---- kinds: "0 nil, 1 out, 2 in, 3 read, 4 newloc, 5 eval, 6 split, 7 roll"
 -- "a past process is at kinds 1..6"
@@ -62,12 +66,7 @@ hasTarget k = isOut k || (meetsTuple k || isEval k)
 abbrev pub hasFields : ℕ → Bool
 hasFields k = isOut k || meetsTuple k
 
--- ---- a process, its node and its target
-abbrev pub action : Script → Body → Action
-action s b = actionAt s (b .node .0)
-
-abbrev pub kindOf : Script → Body → ℕ
-kindOf s b = action s b .kind
+-- ---- a node and its target, from a process's variables
 
 abbrev pub numberOf : Target → ℕ
 numberOf (Target.At l) = l .0
@@ -77,18 +76,13 @@ abbrev pub isFound : Target → Bool
 isFound (Target.At l) = true
 isFound Target.Missing = false
 
-unfoldable pub target : Script → Body → ℕ
-target s b = numberOf (targetOf (b .contents) (action s b .target))
+unfoldable pub targetBy : Action → List Datum → ℕ
+targetBy a vars = numberOf (targetOf vars (a .target))
 
 -- what the node needs can be evaluated: "target or actual variable unset, target no locality" (check 7) is not so
-unfoldable pub isReady : Script → Body → Bool
-isReady s b =
-    pick (hasTarget (kindOf s b)) (isFound (targetOf (b .contents) (action s b .target))) true &&
-    pick (hasFields (kindOf s b)) (fieldsReady (b .contents) (action s b)) true
-
--- the tuple meets the process's template
-unfoldable pub fits : Script → Body → Body → Bool
-fits s b t = meets (b .contents) (action s b) (t .count) (t .contents)
+unfoldable pub readyBy : Action → List Datum → Bool
+readyBy a vars =
+    pick (hasTarget (a .kind)) (isFound (targetOf vars (a .target))) true && pick (hasFields (a .kind)) (fieldsReady vars a) true
 
 -- ---- the continuation
 -- "an in or read binds its formals, newloc binds its variable"
@@ -102,40 +96,82 @@ unfoldable pub referencesAfter : Action → Key → List Key → List Key
 referencesAfter a k refs = pick (ltb (a .reference .0) referenceCount) (set refs (a .reference .0) k) refs
 
 -- "a new live process at the same locality, node next, same variables and references, changed thus": of the process with this key, from
--- the tuple it met, with the locality it made
-unfoldable pub continuation : Script → Key → Body → Body → Locality → Body
-continuation s k b t l =
+-- the fields of the tuple it met, with the locality it made
+unfoldable pub continuedBy : Action → Key → Body → List Datum → Locality → Body
+continuedBy a k b fields l =
     record {
       locality = b .locality;
-      node = action s b .next;
+      node = a .next;
       count = 0;
-      contents = variablesAfter (action s b) (b .contents) (t .contents) l;
-      refs = referencesAfter (action s b) k (b .refs);
+      contents = variablesAfter a (b .contents) fields l;
+      refs = referencesAfter a k (b .refs);
     }
 
 -- ---- the second thing made
+-- a field of the tuple that an out with so many fields makes
+abbrev pub fieldMade : List Datum → ℕ → ℕ → Field → Datum
+fieldMade vars count j f = pick (ltb j count) (actual vars f) datum0
+
 -- "out: 4 new tuple at the target": its fields, evaluated
-unfoldable pub tupleMade : Script → Body → Body
-tupleMade s b =
+unfoldable pub tupleBy : Action → Body → Body
+tupleBy a b =
     record {
-      locality = locality (target s b);
+      locality = locality (targetBy a (b .contents));
       node = node 0;
-      count = action s b .count;
-      contents = tab 8 (λ j. pick (ltb j (action s b .count)) (actual (b .contents) (fieldAt (action s b) j)) datum0);
+      count = a .count;
+      contents = tab 8 (λ j. fieldMade (b .contents) (a .count) j (fieldAt a j));
       refs = replicate referenceCount (key none);
     }
 
 -- "eval: 4 a process at the target, node other, variables and references as before the step, without the new reference";
 -- "split: 3 left, 4 right, both unchanged otherwise"
-unfoldable pub processMade : Script → Body → Body
-processMade s b =
+unfoldable pub processBy : Action → Body → Body
+processBy a b =
     record {
-      locality = pick (isEval (kindOf s b)) (locality (target s b)) (b .locality);
-      node = action s b .other;
+      locality = pick (isEval (a .kind)) (locality (targetBy a (b .contents))) (b .locality);
+      node = a .other;
       count = 0;
       contents = b .contents;
       refs = b .refs;
     }
 
-unfoldable pub secondMade : Script → Body → Body
-secondMade s b = pick (isOut (kindOf s b)) (tupleMade s b) (processMade s b)
+unfoldable pub secondBy : Action → Body → Body
+secondBy a b = pick (isOut (a .kind)) (tupleBy a b) (processBy a b)
+
+-- ---- the same of a process under a script, by its node
+abbrev pub action : Script → Body → Action
+action s b = actionAt s (b .node .0)
+
+abbrev pub kindOf : Script → Body → ℕ
+kindOf s b = action s b .kind
+
+abbrev pub target : Script → Body → ℕ
+target s b = targetBy (action s b) (b .contents)
+
+abbrev pub isReady : Script → Body → Bool
+isReady s b = readyBy (action s b) (b .contents)
+
+-- the tuple meets the process's template
+unfoldable pub fits : Script → Body → Body → Bool
+fits s b t = meets (b .contents) (action s b) (t .count) (t .contents)
+
+abbrev pub continuation : Script → Key → Body → Body → Locality → Body
+continuation s k b t l = continuedBy (action s b) k b (t .contents) l
+
+abbrev pub tupleMade : Script → Body → Body
+tupleMade s b = tupleBy (action s b) b
+
+abbrev pub processMade : Script → Body → Body
+processMade s b = processBy (action s b) b
+
+abbrev pub secondMade : Script → Body → Body
+secondMade s b = secondBy (action s b) b
+
+-- ---- as slots
+-- what stands at the second key once it is made: a live tuple, or a live process
+unfoldable pub secondSlot : Action → Body → Slot
+secondSlot a b = pick (isOut (a .kind)) (liveTuple (tupleBy a b)) (liveProcess (processBy a b))
+
+-- check 7 as an answer
+unfoldable pub readiness : Action → List Datum → Readiness
+readiness a vars = pick (readyBy a vars) Readiness.Ready Readiness.Unset

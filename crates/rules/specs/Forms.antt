@@ -29,7 +29,7 @@ use Rattle.matching.specs.Evaluate
 use Rattle.matching.specs.Match.{bound, withVariable}
 use Rattle.matching.specs.declared.Target.{Target}
 use Rattle.products.specs.Body.{Body, isProcess, isTuple}
-use Rattle.products.specs.Products.{isStep, isOut, isNewloc, isEval, isSplit, meetsTuple, hasTarget, hasFields, action, kindOf, target, numberOf, isFound, isReady, variablesAfter, referencesAfter, continuation, tupleMade, processMade, secondMade}
+use Rattle.products.specs.Products.{isStep, isOut, isNewloc, isEval, isSplit, meetsTuple, hasTarget, hasFields, action, kindOf, target, numberOf, isFound, isReady, variablesAfter, referencesAfter, continuation, tupleMade, processMade, secondMade, continuedBy, processBy, readyBy, targetBy, tupleBy}
 use Rattle.rules.specs.Nodes.{Ranged, node-cases, target-small, field-small, count-few, next-node, other-node, out-count, out-tags}
 use Rattle.rules.specs.Laws.{placed, after-bound, after-made, after-same, bound-keeps, with-keeps, set-keeps}
 
@@ -112,7 +112,7 @@ place-below d =
 
 -- a target is below 32, found or not
 pub target-below : (s : Script) (b : Body) → target s b < 32
-unfolding target targetOf
+unfolding targetBy targetOf
 target-below s b = place-below (actual (b .contents) (action s b .target))
 
 module _ (s : Script) (w : ShapedScript s) (range : scriptInRange s ≡ true) (b : Body) (good : isProcess b ≡ true) (step : isStep (kindOf s b) ≡ true) where
@@ -155,7 +155,7 @@ module _ (s : Script) (w : ShapedScript s) (range : scriptInRange s ≡ true) (b
       (λ v. subst Q (sym (after-same a (b .contents) (t .contents) l u v)) old)))
 
   pub continuation-process : (k : Key) (t : Body) (l : Locality) → k .0 < keyCount → (meetsTuple (kindOf s b) ≡ true → isTuple t ≡ true) → (isNewloc (kindOf s b) ≡ true → l .0 < 32) → isProcess (continuation s k b t l) ≡ true
-  unfolding continuation
+  unfolding continuedBy
   continuation-process k t l h tuple place =
       is-process (continuation s k b t l)
       (record {
@@ -172,7 +172,7 @@ module _ (s : Script) (w : ShapedScript s) (range : scriptInRange s ≡ true) (b
 
   -- what an eval spawns, and the right side of a split
   pub made-process : (isEval (kindOf s b) || isSplit (kindOf s b)) ≡ true → isProcess (processMade s b) ≡ true
-  unfolding processMade
+  unfolding processBy
   made-process k =
       is-process (processMade s b)
       (record {
@@ -185,7 +185,7 @@ module _ (s : Script) (w : ShapedScript s) (range : scriptInRange s ≡ true) (b
 
   module _ (out : isOut (kindOf s b) ≡ true) (ready : isReady s b ≡ true) where
     fields-ready : fieldsReady (b .contents) a ≡ true
-    unfolding isReady
+    unfolding readyBy
     fields-ready =
         let h = and-right (pick (hasTarget (a .kind)) (isFound (targetOf (b .contents) (a .target))) true) _ ready in
         subst (λ (u : Bool). pick (u || meetsTuple (a .kind)) (fieldsReady (b .contents) a) true ≡ true) out h
@@ -237,7 +237,7 @@ module _ (s : Script) (w : ShapedScript s) (range : scriptInRange s ≡ true) (b
 
     -- what an out makes
     pub made-tuple : isTuple (tupleMade s b) ≡ true
-    unfolding tupleInRange tupleMade madeAre refsAre all
+    unfolding tupleInRange tupleBy madeAre refsAre all
     made-tuple =
         and-both (isLocality (locality (target s b))) _ (lt-ltb (target s b) 32 (target-below s b))
         (and-both (leb 1 (a .count)) _ (le-leb 1 (a .count) (out-count a in-range out))

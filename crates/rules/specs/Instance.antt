@@ -19,7 +19,7 @@ use Rattle.nets.specs.Rules.{Rules, Lawful, Act, number, isTake, isRead, isNewl
 use Rattle.nets.specs.Rules
 use Rattle.products.specs.Body.{Body, isProcess, isTuple}
 use Rattle.products.specs.Products
-use Rattle.products.specs.Products.{isStep, kindOf, target, isReady, fits, continuation, secondMade, tupleMade, processMade, meetsTuple, hasTarget}
+use Rattle.products.specs.Products.{isStep, kindOf, target, isReady, fits, continuation, secondMade, tupleMade, processMade, meetsTuple, hasTarget, continuedBy, processBy, secondBy, tupleBy}
 use Rattle.rules.specs.Roots.{names, refers, rooted}
 use Rattle.rules.specs.Laws.{rooted-at, rooted-names, rooted-refers, target-named, continuation-names, second-names, continuation-refers, second-refers}
 use Rattle.rules.specs.Forms.{continuation-process, made-tuple, made-process}
@@ -174,7 +174,7 @@ module _ (s : Script) (w : ShapedScript s) (range : scriptInRange s ≡ true) wh
       (λ u. ltb-true l 32 (and-right (leb 8 l) _ (made (same-kind (kindOf s b) 4 (omega arith) (omega arith) ∙ u))))
 
   pub second-at : (b : Body) → (secondMade s b .locality .0 ≡ b .locality .0) ⊎ ((aims (act s b) ≡ true) × (secondMade s b .locality .0 ≡ target s b))
-  unfolding secondMade tupleMade processMade
+  unfolding secondBy tupleBy processBy
   second-at b =
       let k = kindOf s b in
       cases (Products.isOut k)
@@ -201,17 +201,17 @@ module _ (s : Script) (w : ShapedScript s) (range : scriptInRange s ≡ true) wh
       (continuation-refers s w range b (key k) t (locality l) r h)
 
   pub next-at : (k : ℕ) (b t : Body) (l : ℕ) → next s k b t l .locality .0 ≡ b .locality .0
-  unfolding continuation
+  unfolding continuedBy
   next-at k b t l = refl
 
   pub second-tuple : (b : Body) → isProcess b ≡ true → isReady s b ≡ true → secondOf (act s b) ≡ Rules.aTuple → isTuple (secondMade s b) ≡ true
-  unfolding secondMade
+  unfolding secondBy
   second-tuple b good ready e =
       let out = out-act (kindOf s b) e in
       rw out (made-tuple s w range b good (out-step (kindOf s b) out) out ready)
 
   pub second-process : (b : Body) → isProcess b ≡ true → isReady s b ≡ true → secondOf (act s b) ≡ Rules.aProcess → isProcess (secondMade s b) ≡ true
-  unfolding secondMade
+  unfolding secondBy
   second-process b good ready e =
       let (k, no-out) = process-act (kindOf s b) e in
       rw no-out (made-process s w range b good (second-step (kindOf s b) k) k)

@@ -28,7 +28,7 @@ use Rattle.images.specs.declared.Datum.{Datum}
 use Rattle.matching.specs.Evaluate.{actual, variableOf, placeOf, targetOf, isVariable, isFormal}
 use Rattle.matching.specs.Match.{bindOne, bindUpTo, bound, withVariable}
 use Rattle.products.specs.Body.{Body, isProcess, isTuple}
-use Rattle.products.specs.Products.{isOut, isIn, isRead, isNewloc, isEval, isSplit, meetsTuple, hasTarget, action, kindOf, target, numberOf, variablesAfter, referencesAfter, continuation, tupleMade, processMade, secondMade}
+use Rattle.products.specs.Products.{isOut, isIn, isRead, isNewloc, isEval, isSplit, meetsTuple, hasTarget, action, kindOf, target, numberOf, variablesAfter, referencesAfter, continuation, tupleMade, processMade, secondMade, continuedBy, processBy, secondBy, targetBy, tupleBy}
 use Rattle.rules.specs.Nodes.{Ranged, node-cases, target-small, field-small, count-few, next-node, other-node, split-reference, out-count, out-tags}
 use Rattle.rules.specs.Roots.{isPlace, names, refers, isHome, rooted}
 
@@ -147,7 +147,7 @@ module _ (s : Script) (w : ShapedScript s) (range : scriptInRange s ≡ true) (b
 
   -- a made locality that is a target is named
   pub target-named : 8 ≤ target s b → names b (target s b) ≡ true
-  unfolding target targetOf
+  unfolding targetBy targetOf
   target-named l = go (actual (b .contents) (a .target)) refl l
     where
       go : (d : Datum) → actual (b .contents) (a .target) ≡ d → 8 ≤ numberOf (placeOf d) → names b (numberOf (placeOf d)) ≡ true
@@ -183,7 +183,7 @@ module _ (s : Script) (w : ShapedScript s) (range : scriptInRange s ≡ true) (b
       (λ v. subst Q (sym (after-same a (b .contents) (t .contents) l u v)) old))
 
   pub continuation-names : (k : Key) (t : Body) (l : Locality) (m : ℕ) → names (continuation s k b t l) m ≡ true → NamedBefore t l m
-  unfolding names continuation
+  unfolding names continuedBy
   continuation-names k t l m h =
       let (j, q, p) = any-some 8 (λ j. isPlace m (getD (variablesAfter a (b .contents) (t .contents) l) j datum0)) h in
       after-names t l m j q p
@@ -200,7 +200,7 @@ module _ (s : Script) (w : ShapedScript s) (range : scriptInRange s ≡ true) (b
       (node-cases s w range (b .node .0))
 
   tuple-names : (m : ℕ) → 8 ≤ m → names (tupleMade s b) m ≡ true → names b m ≡ true
-  unfolding names tupleMade
+  unfolding names tupleBy
   tuple-names m l h =
       let f : ℕ → Datum = λ j. pick (ltb j (a .count)) (actual (b .contents) (fieldAt a j)) datum0 in
       let (j, q, p) = any-some 8 (λ j. isPlace m (getD (tab 8 f) j datum0)) h in
@@ -210,12 +210,12 @@ module _ (s : Script) (w : ShapedScript s) (range : scriptInRange s ≡ true) (b
       (λ t. clash (isPlace m datum0) (rw t at p′) refl)
 
   process-names : (m : ℕ) → names (processMade s b) m ≡ true → names b m ≡ true
-  unfolding names processMade
+  unfolding names processBy
   process-names m h = h
 
   -- a locality from 8 that the second thing made names, the process named
   pub second-names : (m : ℕ) → 8 ≤ m → names (secondMade s b) m ≡ true → names b m ≡ true
-  unfolding secondMade
+  unfolding secondBy
   second-names m l h =
       cases (isOut (kindOf s b)) (λ t. tuple-names m l (rw t at h)) (λ t. process-names m (rw t at h))
 
@@ -249,13 +249,13 @@ module _ (s : Script) (w : ShapedScript s) (range : scriptInRange s ≡ true) (b
       (λ u. rw u old)
 
   pub continuation-refers : (k : Key) (t : Body) (l : Locality) (r : ℕ) → refers (continuation s k b t l) r ≡ true → ReferredBefore k r
-  unfolding refers continuation
+  unfolding refers continuedBy
   continuation-refers k t l r h =
       let (j, q, p) = any-some 4 (λ j. eqb (getD (referencesAfter a k (b .refs)) j (key 0) .0) r) (and-right (ltb r keyCount) _ h) in
       after-refers k r j (and-left (ltb r keyCount) _ h) q p
 
   tuple-refers : (r : ℕ) → refers (tupleMade s b) r ≡ true → refers b r ≡ true
-  unfolding refers tupleMade
+  unfolding refers tupleBy
   tuple-refers r h =
       let below = ltb-true r keyCount (and-left (ltb r keyCount) _ h) in
       let (j, q, p) = any-some 4 (λ j. eqb (getD (replicate 4 (key 255)) j (key 0) .0) r) (and-right (ltb r keyCount) _ h) in
@@ -263,10 +263,10 @@ module _ (s : Script) (w : ShapedScript s) (range : scriptInRange s ≡ true) (b
       absurd (omega (arith, ap (λ (x : Key). x .0) (getD-replicate 4 j (key 255) (key 0) q)))
 
   process-refers : (r : ℕ) → refers (processMade s b) r ≡ true → refers b r ≡ true
-  unfolding refers processMade
+  unfolding refers processBy
   process-refers r h = h
 
   pub second-refers : (r : ℕ) → refers (secondMade s b) r ≡ true → refers b r ≡ true
-  unfolding secondMade
+  unfolding secondBy
   second-refers r h =
       cases (isOut (kindOf s b)) (λ t. tuple-refers r (rw t at h)) (λ t. process-refers r (rw t at h))

@@ -8,10 +8,12 @@ use lib.ListN.{getD}
 use Rattle.laws.specs.Choice.{pick}
 use Rattle.laws.specs.Checks.{all}
 use Rattle.order.specs.KeySets.{any}
-use Rattle.names.specs.Names.{keyCount, firstMade, none, key}
+use Rattle.names.specs.Names.{keyCount, firstMade, referenceCount, none, key}
 use Rattle.images.specs.Net.{datum0, refsAre}
 use Rattle.images.specs.declared.Datum.{Datum}
+use Rattle.images.specs.declared.Script.{Script}
 use Rattle.products.specs.Body.{Body}
+use Rattle.products.specs.Products.{action}
 
 -- a variable or a field that holds this locality
 abbrev pub isPlace : ℕ → Datum → Bool
@@ -31,3 +33,7 @@ isHome d = pick (eqb (d .tag) 2) (ltb (d .number) firstMade) true
 unfoldable pub rooted : Body → Bool
 rooted b =
     ltb (b .locality .0) firstMade && (all 8 (λ j. isHome (getD (b .contents) j datum0)) && refsAre none (b .refs))
+
+-- the key that the node's reference holds, or none: what a roll rolls back
+abbrev pub rolledBy : Script → Body → ℕ
+rolledBy s b = pick (ltb (action s b .reference .0) referenceCount) (getD (b .refs) (action s b .reference .0) (key none) .0) none

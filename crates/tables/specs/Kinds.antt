@@ -20,7 +20,7 @@ use Rattle.images.specs.declared.Script.{Script}
 use Rattle.nets.specs.Rules.{number}
 use Rattle.nets.specs.Rules
 use Rattle.products.specs.Body.{Body}
-use Rattle.products.specs.Products.{isOut, isIn, isRead, isNewloc, isEval, isSplit, action, kindOf, isReady, variablesAfter, referencesAfter, continuation, tupleMade, processMade, secondMade}
+use Rattle.products.specs.Products.{isOut, isIn, isRead, isNewloc, isEval, isSplit, action, kindOf, isReady, variablesAfter, referencesAfter, continuation, tupleMade, processMade, secondMade, continuedBy, processBy, readyBy, secondBy}
 use Rattle.rules.specs.Nodes.{node-cases, split-reference}
 use Rattle.rules.specs.Instance.{actOf}
 use Rattle.tables.specs.Table.{following, matched, binding, spawned, left, right}
@@ -71,39 +71,39 @@ module _ (s : Script) (b : Body) where
   -- ---- nothing to evaluate
 
   pub new-ready : isNewloc (kindOf s b) ≡ true → isReady s b ≡ true
-  unfolding isReady
+  unfolding readyBy
   new-ready h = rw (eqb-true (kindOf s b) 4 h)
 
   pub split-ready : isSplit (kindOf s b) ≡ true → isReady s b ≡ true
-  unfolding isReady
+  unfolding readyBy
   split-ready h = rw (eqb-true (kindOf s b) 6 h)
 
   -- ---- the continuation
 
   module _ (k : ℕ) (t : Body) (l : ℕ) where
     pub out-next : isOut (kindOf s b) ≡ true → continuation s (key k) b t (locality l) ≡ following s k b (b .contents)
-    unfolding continuation variablesAfter
+    unfolding continuedBy variablesAfter
     out-next h = rw (eqb-true (kindOf s b) 1 h)
 
     pub in-next : isIn (kindOf s b) ≡ true → continuation s (key k) b t (locality l) ≡ following s k b (matched s b t)
-    unfolding continuation variablesAfter
+    unfolding continuedBy variablesAfter
     in-next h = rw (eqb-true (kindOf s b) 2 h)
 
     pub read-next : isRead (kindOf s b) ≡ true → continuation s (key k) b t (locality l) ≡ following s k b (matched s b t)
-    unfolding continuation variablesAfter
+    unfolding continuedBy variablesAfter
     read-next h = rw (eqb-true (kindOf s b) 3 h)
 
     pub new-next : isNewloc (kindOf s b) ≡ true → continuation s (key k) b t (locality l) ≡ following s k b (binding s b l)
-    unfolding continuation variablesAfter
+    unfolding continuedBy variablesAfter
     new-next h = rw (eqb-true (kindOf s b) 4 h)
 
     pub eval-next : isEval (kindOf s b) ≡ true → continuation s (key k) b t (locality l) ≡ following s k b (b .contents)
-    unfolding continuation variablesAfter
+    unfolding continuedBy variablesAfter
     eval-next h = rw (eqb-true (kindOf s b) 5 h)
 
     -- a split has no reference
     pub split-next : ShapedScript s → scriptInRange s ≡ true → isSplit (kindOf s b) ≡ true → continuation s (key k) b t (locality l) ≡ left s b
-    unfolding continuation variablesAfter referencesAfter
+    unfolding continuedBy variablesAfter referencesAfter
     split-next w range h = rw (eqb-true (kindOf s b) 6 h, no-reference)
       where
         no-reference : ltb (action s b .reference .0) referenceCount ≡ false
@@ -115,13 +115,13 @@ module _ (s : Script) (b : Body) where
   -- ---- what is made besides
 
   pub out-second : isOut (kindOf s b) ≡ true → secondMade s b ≡ tupleMade s b
-  unfolding secondMade
+  unfolding secondBy
   out-second h = rw h
 
   pub eval-second : isEval (kindOf s b) ≡ true → secondMade s b ≡ spawned s b
-  unfolding secondMade processMade
+  unfolding secondBy processBy
   eval-second h = rw (eqb-true (kindOf s b) 5 h)
 
   pub split-second : isSplit (kindOf s b) ≡ true → secondMade s b ≡ right s b
-  unfolding secondMade processMade
+  unfolding secondBy processBy
   split-second h = rw (eqb-true (kindOf s b) 6 h)
