@@ -186,7 +186,8 @@ pub fn made_are(b: u8, s: Slot) -> bool
     s.used.0 == b && s.place.0 == b
 }
 
-fn refs_are(b: u8, refs: [Key; Reference::COUNT]) -> bool
+// Every reference is this byte: 255 where nothing is held, and 0 in a free slot.
+pub fn refs_are(b: u8, refs: [Key; Reference::COUNT]) -> bool
     ensures { λ r. ⌜ r ≡ refsAre b refs ⌝ }
 {
     let mut j: usize = 0;

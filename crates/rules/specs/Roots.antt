@@ -30,9 +30,11 @@ refers b r = ltb r keyCount && any 4 (λ j. eqb (getD (b .refs) j (key 0) .0) r)
 abbrev pub isHome : Datum → Bool
 isHome d = pick (eqb (d .tag) 2) (ltb (d .number) firstMade) true
 
+abbrev pub allHome : List Datum → Bool
+allHome ds = all 8 (λ j. isHome (getD ds j datum0))
+
 unfoldable pub rooted : Body → Bool
-rooted b =
-    ltb (b .locality .0) firstMade && (all 8 (λ j. isHome (getD (b .contents) j datum0)) && refsAre none (b .refs))
+rooted b = ltb (b .locality .0) firstMade && (allHome (b .contents) && refsAre none (b .refs))
 
 -- the key that the node's reference holds, or none: what a roll rolls back
 abbrev pub rolledBy : Script → Body → ℕ

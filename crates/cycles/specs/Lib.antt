@@ -1,0 +1,3 @@
+-- Whether there is a cycle, as the code finds out.
+pub mod Cycles
+pub mod Laws

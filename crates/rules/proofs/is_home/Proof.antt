@@ -1,0 +1,16 @@
+-- `is_home` meets its contract. Assumes nothing.
+use borrow.Author.Needs.{needs}
+use borrow.Author.Tests.{eq-eqb, ne-eqb, lt-leb, le-leb, lt-ltb, le-ltb, not-true, not-false}
+use Rattle.rules.proofs.is_home.Statement.{statement}
+use Rattle.rules.proofs.is_home.Tie as tie
+use Rattle.rules.proofs.is_home.Reads as reads
+use Rattle.rules.proofs.is_home.Lts as lts
+
+returns : tie.Need-returns
+returns c = rw (ne-eqb _ _ (c .if1 .taken))
+
+returns-2 : tie.Need-returns-2
+returns-2 c = rw (eq-eqb _ _ (c .before .if1 .left))
+
+pub is-home-spec : {M : Type 1} → statement M
+is-home-spec = tie.close (tie.spec returns returns-2)
