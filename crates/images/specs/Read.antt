@@ -9,10 +9,11 @@ use Rattle.laws.specs.Choice.{pick}
 use Rattle.laws.specs.Lists.{tab}
 use Rattle.laws.specs.Checks.{all}
 use Rattle.laws.specs.Words.{wordAt}
-use Rattle.names.specs.Names.{keyCount, nodeCount, key, locality, node, reference}
+use Rattle.names.specs.Names.{keyCount, nodeCount, key, locality, node, reference, isNode}
+use Rattle.names.specs.declared.Node.{Node}
 use Rattle.names.specs.Localities.{localities}
 use Rattle.images.specs.Head.{byte, partAt, headFormed, restZero}
-use Rattle.images.specs.Script.{actionInRange, field0}
+use Rattle.images.specs.Script.{actionInRange, field0, actionAt}
 use Rattle.images.specs.Net.{isTuple, slotInRange, emptyNet}
 use Rattle.images.specs.declared.Field.{Field}
 use Rattle.images.specs.declared.Action.{Action}
@@ -61,6 +62,10 @@ nilAction =
 
 abbrev pub goodScript : Script → ScriptRead
 goodScript s = record { form = Form.Good; script = s }
+
+-- the node of this number; where there is no such node, nil
+abbrev pub nodeWith : Script → Node → Action
+nodeWith s k = pick (isNode k) (actionAt s (k .0)) nilAction
 
 -- beside a refusal stands a script of nil nodes
 abbrev pub badScript : ScriptRead

@@ -6,7 +6,7 @@ ghost use mathlib.Core.Bool.{_&&_};
 ghost use Rattle.laws.specs.Choice.{pick};
 ghost use Rattle.images.specs.Head.{partAt, restZero};
 ghost use Rattle.images.specs.Script.{rowOf, nodeInPlace, targetInPlace, referenceInPlace, fieldInRange, isBlank, countInPlace, fieldInPlace, fieldsInPlace, sameFormal, freshFormal, formalsDistinct, placesInRow, fieldsInRow, actionInRange};
-ghost use Rattle.images.specs.Read.{fieldOf, actionOf, nodesFormed, scriptOf, nilAction, goodScript, badScript, readScript};
+ghost use Rattle.images.specs.Read.{fieldOf, actionOf, nodesFormed, scriptOf, nilAction, nodeWith, goodScript, badScript, readScript};
 use super::Action;
 use super::Field;
 use super::Form;
@@ -347,6 +347,17 @@ fn nil() -> Action
         count: 0,
         fields: [Field { tag: 0, number: 0 }; Field::COUNT],
     }
+}
+
+// The node of this number; where there is no such node, nil.
+pub fn node_with(s: Script, k: Node) -> Action
+    ensures { λ r. ⌜ r ≡ nodeWith s k ⌝ }
+{
+    if k.is_node() {
+        let i = k.0 as usize;
+        return s.nodes[i];
+    }
+    nil()
 }
 
 fn refused() -> ScriptRead

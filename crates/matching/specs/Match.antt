@@ -2,11 +2,13 @@
 -- Actual fields match the same kind and number; a formal for a value only a value, for a locality only a locality."
 -- Assumes nothing.
 use Prim.Native.Nat.{ℕ, zero, suc}
+use mathlib.Core.Path.{_≡_, ap}
+use native.Mathlib.Omega.{arith}
 use mathlib.Core.List.{List}
-use mathlib.Core.Bool.{Bool, true, _&&_}
+use mathlib.Core.Bool.{Bool, true, false, _&&_}
 use lib.Dec.{eqb, ltb}
 use lib.ListN.{getD, set}
-use Rattle.laws.specs.Choice.{pick}
+use Rattle.laws.specs.Choice.{pick, cases}
 use Rattle.laws.specs.Checks.{all}
 use Rattle.names.specs.Names.{variableCount}
 use Rattle.images.specs.Script.{fieldAt}
@@ -52,3 +54,26 @@ unfoldable pub matchOf : List Datum → Action → ℕ → List Datum → Matchi
 matchOf vars a count fields =
     pick (meets vars a count fields) (record { answer = Match.Matches; contents = bound vars a fields })
     (record { answer = Match.Differs; contents = vars })
+
+-- ---- what the answer says
+
+abbrev matchNumber : Match → ℕ
+matchNumber Match.Matches = 1
+matchNumber Match.Differs = 0
+
+module _ (vars : List Datum) (a : Action) (count : ℕ) (fields : List Datum) where
+  pub matches-meets : matchOf vars a count fields .answer ≡ Match.Matches → meets vars a count fields ≡ true
+  unfolding matchOf
+  matches-meets e =
+      cases (meets vars a count fields) (λ t. t) (λ t. absurd (apart (ap matchNumber (rw t at e))))
+    where
+      apart : _≡_ {A = ℕ} 0 1 → ⊥
+      apart z = omega arith
+
+  pub differs-not : matchOf vars a count fields .answer ≡ Match.Differs → meets vars a count fields ≡ false
+  unfolding matchOf
+  differs-not e =
+      cases (meets vars a count fields) (λ t. absurd (apart (ap matchNumber (rw t at e)))) (λ t. t)
+    where
+      apart : _≡_ {A = ℕ} 1 0 → ⊥
+      apart z = omega arith

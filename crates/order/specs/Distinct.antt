@@ -1,8 +1,8 @@
 -- Rows of keys that share no member: what each of some events says, said by no other.
 --
 -- In order: what the first n rows hold together (`gathered`); that no two of them share a member below K (`distinct`), one row more
--- (`distinct-next`, `gathered-next`), and what it means (`distinct-iff`); what a row of no member, one, or two has in common with a set
--- (`row-none`, `row-one`, `row-two`).
+-- (`distinct-next`, `gathered-next`), what it means (`distinct-iff`), and rows with the same members (`distinct-ext`); what a row of no
+-- member, one, or two has in common with a set (`row-none`, `row-one`, `row-two`).
 -- Assumes nothing.
 use mathlib.Core.Path.{_≡_, refl, sym, ap, _∙_}
 use mathlib.Core.Logic.{_↔_, _⊎_, inl, inr, ⊎-elim}
@@ -13,7 +13,7 @@ use native.Mathlib.Numerals.{add-one}
 use native.Mathlib.Omega.{arith}
 use lib.Dec.{eqb}
 use borrow.Author.Tests.{eqb-true, eqb-false, not-true}
-use Rattle.laws.specs.Choice.{cases, clash, and-left, and-right, and-both, fails}
+use Rattle.laws.specs.Choice.{cases, clash, and-left, and-right, and-both, fails, agree}
 use Rattle.order.specs.KeySets.{Set, _∈_, only, empty, _∩_, _∪_, any, any-next, any-of, any-some, any-not, any-ext, any-only, any-more, any-empty}
 
 -- what the rows 0, .., n - 1 hold
@@ -73,6 +73,13 @@ apart-distinct K (suc n) Q h =
 
 pub distinct-iff : (K n : ℕ) (Q : ℕ → Set) → (distinct K n Q ≡ true) ↔ Apart K n Q
 distinct-iff K n Q = (distinct-apart K n Q, apart-distinct K n Q)
+
+-- rows with the same members below K
+pub distinct-ext : (K n : ℕ) (Q P : ℕ → Set) → ((e k : ℕ) → e < n → k < K → Q e k ≡ P e k) → distinct K n Q ≡ distinct K n P
+distinct-ext K n Q P h =
+    agree (distinct K n Q) (distinct K n P)
+    (λ t. apart-distinct K n P (λ e f k l m b p q. distinct-apart K n Q t e f k l m b (h e k l b ∙ p) (h f k m b ∙ q)))
+    (λ t. apart-distinct K n Q (λ e f k l m b p q. distinct-apart K n P t e f k l m b (sym (h e k l b) ∙ p) (sym (h f k m b) ∙ q)))
 
 -- ---- a row and a set
 

@@ -1,12 +1,14 @@
 -- A word as a set of keys: `member s` is the set of the places of the bits of s.
 -- In order: no bit, one bit set and one bit cleared, as sets (`word-empty`, `word-including`, `word-excluding`); `wordOf`, the word of a set below n,
--- with its bound (`wordOf-lt`), its members (`wordOf-above`, `wordOf-in`), and that it is the only such word (`wordOf-is`).
+-- with its bound (`wordOf-lt`), its members (`wordOf-above`, `wordOf-in`), and that it is the only such word (`wordOf-is`); one place more
+-- (`wordOf-next`), equal sets (`wordOf-ext`), and one member more (`wordOf-more`).
 -- Not here: `member`, `including`, `excluding` and their laws (`laws`, `Sets`).
 -- Assumes nothing.
-use mathlib.Core.Path.{_≡_, sym, _∙_, fun-ext}
-use mathlib.Core.Bool.{and-false, and-true}
-use Prim.Native.Nat.{ℕ, zero, suc, _^_, _≤_, _<_}
+use mathlib.Core.Path.{_≡_, sym, ap, _∙_, fun-ext}
+use mathlib.Core.Bool.{Bool, and-false, and-true, _||_}
+use Prim.Native.Nat.{ℕ, zero, suc, _+_, _^_, _≤_, _<_}
 use native.Mathlib.Nat.{not-suc-le-zero, pow-suc}
+use native.Mathlib.Numerals.{add-one}
 use native.Mathlib.Omega.{arith}
 use lib.Dec.{eqb}
 use lib.Pow.{pow-pos}
@@ -61,3 +63,16 @@ wordOf-in (suc k) S x l =
 
 pub wordOf-is : (n : ℕ) (S : Set) (s : ℕ) → s < 2 ^ n → ((x : ℕ) → x < n → member s x ≡ S x) → s ≡ wordOf n S
 wordOf-is n S s h e = same-members n s (wordOf n S) h (wordOf-lt n S) (λ x l. e x l ∙ sym (wordOf-in n S x l))
+
+pub wordOf-next : (k : ℕ) (S : Set) → wordOf (k + 1) S ≡ pick (S k) (including (wordOf k S) k) (wordOf k S)
+unfolding wordOf
+wordOf-next k S = rw (add-one k)
+
+pub wordOf-ext : (n : ℕ) (S T : Set) → ((x : ℕ) → x < n → S x ≡ T x) → wordOf n S ≡ wordOf n T
+wordOf-ext n S T h = wordOf-is n T (wordOf n S) (wordOf-lt n S) (λ x l. wordOf-in n S x l ∙ h x l)
+
+-- the word with a bit set is that of the set with its place
+pub wordOf-more : (n : ℕ) (S : Set) (a : ℕ) → a < n → including (wordOf n S) a ≡ wordOf n (only a ∪ S)
+wordOf-more n S a h =
+    wordOf-is n (only a ∪ S) (including (wordOf n S) a) (including-lt n (wordOf n S) a (wordOf-lt n S) h)
+    (λ x l. ap (λ (T : Set). T x) (word-including (wordOf n S) a) ∙ ap (λ (b : Bool). eqb x a || b) (wordOf-in n S x l))

@@ -3,11 +3,13 @@
 -- acceptance compares what stands there with them, backward steps remove them.
 -- Assumes nothing.
 use Prim.Native.Nat.{ℕ}
+use mathlib.Core.Path.{_≡_, ap}
+use native.Mathlib.Omega.{arith}
 use mathlib.Core.List.{List}
 use mathlib.Core.Bool.{Bool, true, false, _&&_, _||_, not}
 use lib.Dec.{eqb, ltb, leb}
 use lib.ListN.{set, replicate}
-use Rattle.laws.specs.Choice.{pick}
+use Rattle.laws.specs.Choice.{pick, cases}
 use Rattle.laws.specs.Lists.{tab}
 use Rattle.names.specs.Names.{none, referenceCount, key, locality, node}
 use Rattle.names.specs.declared.Key.{Key}
@@ -175,3 +177,23 @@ secondSlot a b = pick (isOut (a .kind)) (liveTuple (tupleBy a b)) (liveProcess (
 -- check 7 as an answer
 unfoldable pub readiness : Action → List Datum → Readiness
 readiness a vars = pick (readyBy a vars) Readiness.Ready Readiness.Unset
+
+abbrev readyNumber : Readiness → ℕ
+readyNumber Readiness.Ready = 1
+readyNumber Readiness.Unset = 0
+
+pub ready-true : (a : Action) (vars : List Datum) → readiness a vars ≡ Readiness.Ready → readyBy a vars ≡ true
+unfolding readiness
+ready-true a vars e =
+    cases (readyBy a vars) (λ t. t) (λ t. absurd (apart (ap readyNumber (rw t at e))))
+  where
+    apart : _≡_ {A = ℕ} 0 1 → ⊥
+    apart z = omega arith
+
+pub unset-false : (a : Action) (vars : List Datum) → readiness a vars ≡ Readiness.Unset → readyBy a vars ≡ false
+unfolding readiness
+unset-false a vars e =
+    cases (readyBy a vars) (λ t. absurd (apart (ap readyNumber (rw t at e)))) (λ t. t)
+  where
+    apart : _≡_ {A = ℕ} 1 0 → ⊥
+    apart z = omega arith

@@ -1,8 +1,10 @@
 -- Checks in number order: the first that fails gives the answer.
--- In order: `Check` and `refusal`; a refusal is 0 exactly when all hold (`all-hold`, `none-fails`), and otherwise the number of the first that does not (`first-fails`).
+-- In order: `Check` and `refusal`; a refusal is 0 exactly when all hold (`all-hold`, `none-fails`), and otherwise the number of the
+-- first that does not (`first-fails`), exactly (`refused-iff`).
 -- Assumes nothing.
 use Prim.Native.Nat.{ℕ}
-use mathlib.Core.Path.{_≡_, refl}
+use mathlib.Core.Path.{_≡_, refl, ap, sym, _∙_}
+use mathlib.Core.Logic.{_↔_}
 use mathlib.Core.List.{List, [], _∷_, _++_}
 use mathlib.Core.Bool.{Bool, true, false}
 use Rattle.laws.specs.Choice.{pick, cases, clash}
@@ -46,3 +48,37 @@ pub first-fails : (before : List Check) (c : Check) (after : List Check) → Hol
 unfolding refusal
 first-fails [] c after h f = rw f
 first-fails (d ∷ ds) c after h f = rw (h .0) (first-fails ds c after (h .1) f)
+
+-- "given exactly when": the answer is a check's number exactly when that check does not hold and all before it do
+pub record FirstFails (cs : List Check) (k : ℕ) : Type 0 where
+  pub before : List Check
+  pub it : Check
+  pub after : List Check
+  pub place : cs ≡ before ++ it ∷ after
+  pub hold : Hold before
+  pub fails : it .holds ≡ false
+  pub number : it .number ≡ k
+
+pub refused-first : (cs : List Check) (k : ℕ) → (k ≡ 0 → ⊥) → refusal cs ≡ k → FirstFails cs k
+unfolding refusal
+refused-first [] k some e = absurd (some (sym e))
+refused-first (c ∷ cs) k some e =
+    cases (c .holds)
+    (λ t.
+    let o = refused-first cs k some (rw t at e) in
+    record {
+      before = c ∷ o .before;
+      it = o .it;
+      after = o .after;
+      place = ap (λ (l : List Check). c ∷ l) (o .place);
+      hold = (t, o .hold);
+      fails = o .fails;
+      number = o .number;
+    })
+    (λ t. record { before = []; it = c; after = cs; place = refl; hold = tt; fails = t; number = rw t at e })
+
+pub refused-iff : (cs : List Check) (k : ℕ) → (k ≡ 0 → ⊥) → (refusal cs ≡ k) ↔ FirstFails cs k
+refused-iff cs k some = (
+  refused-first cs k some,
+  λ o. ap refusal (o .place) ∙ first-fails (o .before) (o .it) (o .after) (o .hold) (o .fails) ∙ o .number,
+)

@@ -5,6 +5,7 @@
 use Prim.Native.Nat.{ℕ, zero, suc, _<_}
 use mathlib.Core.Path.{_≡_, refl}
 use mathlib.Core.List.{List}
+use mathlib.Core.Bool.{Bool}
 use native.Mathlib.Omega.{arith}
 use lib.Dec.{eqb}
 use lib.ListN.{length, getD}
@@ -33,6 +34,9 @@ number Answer.NoTuple = 9
 number Answer.NoMatch = 10
 number Answer.NotFresh = 11
 number Answer.NotUndoable = 12
+
+abbrev pub isDone : Answer → Bool
+isDone a = eqb (number a) 0
 
 -- the answer with this number; a number above 12 is none's, and stands with the last
 abbrev pub answerOf : ℕ → Answer

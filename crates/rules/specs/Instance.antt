@@ -50,7 +50,7 @@ number-is (suc (suc (suc (suc (suc (suc (suc zero))))))) = inl refl
 number-is (suc (suc (suc (suc (suc (suc (suc (suc k)))))))) = inr (refl, omega arith)
 
 -- so a test for one of the kinds 1 to 7 asks the same of both
-same-kind : (k m : ℕ) → 1 ≤ m → m < 8 → eqb (number (actOf k)) m ≡ eqb k m
+pub same-kind : (k m : ℕ) → 1 ≤ m → m < 8 → eqb (number (actOf k)) m ≡ eqb k m
 same-kind k m p q =
     ⊎-elim (λ (e : number (actOf k) ≡ k). ap (λ (x : ℕ). eqb x m) e)
     (λ (e : (number (actOf k) ≡ 0) × (8 ≤ k)).

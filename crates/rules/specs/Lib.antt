@@ -4,6 +4,7 @@ pub mod Roots
 pub mod Laws
 pub mod Forms
 pub mod Instance
+pub mod Acts
 pub mod Same
 pub mod View
 pub mod Theorems

@@ -1,0 +1,3 @@
+-- An event and its rule: how the code tests that they agree (`Agreement`), and that this is the theory's test (`Agreed`).
+pub mod Agreement
+pub mod Agreed

@@ -1,0 +1,287 @@
+// An event and its rule: the rule applies, and what the event made is what the rule makes, but for what happened to it since.
+ghost use mathlib.Core.Path.{_≡_};
+ghost use Prim.Native.Nat.{_<_};
+ghost use Rattle.laws.specs.Checks.{all};
+ghost use Rattle.names.specs.Names.{keyCount};
+ghost use Rattle.agreement.specs.Agreement.{keyNeeded, placeNeeded, placedBy, targetThere, isTuple, tupleFits, ruledBy, sameData, sameRefs, sameRecord, standsAs, secondStands, productsStand, agreesAt, slotAgrees};
+use images::Action;
+use images::Datum;
+use images::Net;
+use images::Script;
+use images::Slot;
+use images::net_image::made_are;
+use images::net_image::slot_with;
+use matching::Match;
+use matching::match_tuple;
+use names::Key;
+use names::Localities;
+use names::Locality;
+use names::NONE;
+use names::Reference;
+use names::Variable;
+use products::Readiness;
+use products::continuation;
+use products::evaluable;
+use products::has_target;
+use products::is_step;
+use products::makes_second;
+use products::meets_tuple;
+use products::second_made;
+use products::target_of;
+use rules::is_makeable;
+
+// ---- the places of an event
+
+fn key_needed(need: bool, k: Key) -> bool
+    ensures { λ r. ⌜ r ≡ keyNeeded need k ⌝ }
+{
+    if need {
+        return k.is_key();
+    }
+    k.0 == NONE
+}
+
+fn place_needed(need: bool, l: Locality) -> bool
+    ensures { λ r. ⌜ r ≡ placeNeeded need l ⌝ }
+{
+    if need {
+        return is_makeable(l);
+    }
+    l.0 == NONE
+}
+
+// An event holds what its kind makes and uses, and none where it does neither; its two keys are not one.
+fn places_right(kind: u8, x: Slot) -> bool
+    ensures { λ r. ⌜ r ≡ placedBy kind x ⌝ }
+{
+    let first = x.first;
+    if !first.is_key() {
+        return false;
+    }
+    let second = x.second;
+    let two = makes_second(kind);
+    if !key_needed(two, second) {
+        return false;
+    }
+    if first.0 == second.0 {
+        return false;
+    }
+    let used = x.used;
+    let meets = meets_tuple(kind);
+    if !key_needed(meets, used) {
+        return false;
+    }
+    let place = x.place;
+    let makes = kind == Action::NEWLOC;
+    place_needed(makes, place)
+}
+
+// ---- its rule
+
+fn target_there(kind: u8, present: Localities, l: Locality) -> bool
+    ensures { λ r. ⌜ r ≡ targetThere kind present l ⌝ }
+{
+    if !has_target(kind) {
+        return true;
+    }
+    if !l.is_locality() {
+        return false;
+    }
+    present.has(l)
+}
+
+fn is_tuple(t: Slot) -> bool
+    ensures { λ r. ⌜ r ≡ isTuple t ⌝ }
+{
+    if t.kind == Slot::TUPLE {
+        return true;
+    }
+    t.kind == Slot::CONSUMED
+}
+
+// The tuple used is one, live or consumed since, at the target, and meets the template.
+fn tuple_fits(a: Action, vars: [Datum; Variable::COUNT], l: Locality, t: Slot) -> bool
+    ensures { λ r. ⌜ r ≡ tupleFits a vars l t ⌝ }
+{
+    if !is_tuple(t) {
+        return false;
+    }
+    if t.locality.0 != l.0 {
+        return false;
+    }
+    let fields = t.contents;
+    let m = match_tuple(vars, a, t.count, fields);
+    let answer = m.answer;
+    match answer {
+        Match::Matches => true,
+        Match::Differs => false,
+    }
+}
+
+fn rule_applies(a: Action, present: Localities, x: Slot, t: Slot) -> bool
+    ensures { λ r. ⌜ r ≡ ruledBy a present x t ⌝ }
+{
+    if !is_step(a.kind) {
+        return false;
+    }
+    if !places_right(a.kind, x) {
+        return false;
+    }
+    let vars = x.contents;
+    let Readiness::Ready = evaluable(a, vars) else {
+        return false;
+    };
+    let l = target_of(a, vars);
+    if !target_there(a.kind, present, l) {
+        return false;
+    }
+    if !meets_tuple(a.kind) {
+        return true;
+    }
+    tuple_fits(a, vars, l, t)
+}
+
+// ---- what it made
+
+fn same_data(a: [Datum; Variable::COUNT], b: [Datum; Variable::COUNT]) -> bool
+    ensures { λ r. ⌜ r ≡ sameData a b ⌝ }
+{
+    let mut j: usize = 0;
+    while j < Variable::COUNT {
+        let d = a[j];
+        let e = b[j];
+        if d.tag != e.tag {
+            return false;
+        }
+        if d.number != e.number {
+            return false;
+        }
+        j += 1;
+    }
+    true
+}
+
+fn same_refs(a: [Key; Reference::COUNT], b: [Key; Reference::COUNT]) -> bool
+    ensures { λ r. ⌜ r ≡ sameRefs a b ⌝ }
+{
+    let mut j: usize = 0;
+    while j < Reference::COUNT {
+        let k = a[j];
+        let l = b[j];
+        if k.0 != l.0 {
+            return false;
+        }
+        j += 1;
+    }
+    true
+}
+
+// All that never changes while a key is held.
+fn same_record(x: Slot, y: Slot) -> bool
+    ensures { λ r. ⌜ r ≡ sameRecord x y ⌝ }
+{
+    if x.locality.0 != y.locality.0 {
+        return false;
+    }
+    if x.node.0 != y.node.0 {
+        return false;
+    }
+    if x.count != y.count {
+        return false;
+    }
+    let data = x.contents;
+    let others = y.contents;
+    if !same_data(data, others) {
+        return false;
+    }
+    let refs = x.refs;
+    let other_refs = y.refs;
+    same_refs(refs, other_refs)
+}
+
+// What was made is there as it was made, or past or consumed since.
+fn stands_as(x: Slot, made: Slot, since: u8) -> bool
+    ensures { λ r. ⌜ r ≡ standsAs x made since ⌝ }
+{
+    if !same_record(x, made) {
+        return false;
+    }
+    if x.kind == made.kind {
+        return made_are(NONE, x);
+    }
+    x.kind == since
+}
+
+fn second_stands(a: Action, x: Slot, second: Slot) -> bool
+    ensures { λ r. ⌜ r ≡ secondStands a x second ⌝ }
+{
+    if !makes_second(a.kind) {
+        return true;
+    }
+    let made = second_made(a, x);
+    if a.kind == Action::OUT {
+        return stands_as(second, made, Slot::CONSUMED);
+    }
+    stands_as(second, made, Slot::PAST)
+}
+
+fn products_stand(a: Action, k: Key, x: Slot, t: Slot, first: Slot, second: Slot) -> bool
+    ensures { λ r. ⌜ r ≡ productsStand a k x t first second ⌝ }
+{
+    let fields = t.contents;
+    let place = x.place;
+    let next = continuation(a, k, x, fields, place);
+    if !stands_as(first, next, Slot::PAST) {
+        return false;
+    }
+    second_stands(a, x, second)
+}
+
+// ---- the events of a net
+
+fn event_agrees(s: Script, n: Net, k: Key, x: Slot) -> bool
+    ensures { λ r. ⌜ r ≡ agreesAt s n k x ⌝ }
+{
+    let node = x.node;
+    if !node.is_node() {
+        return false;
+    }
+    let i = node.0 as usize;
+    let a = s.nodes[i];
+    let used = x.used;
+    let t = slot_with(n, used);
+    let present = n.present;
+    if !rule_applies(a, present, x, t) {
+        return false;
+    }
+    let one = x.first;
+    let first = slot_with(n, one);
+    let two = x.second;
+    let second = slot_with(n, two);
+    products_stand(a, k, x, t, first, second)
+}
+
+fn slot_agrees(s: Script, n: Net, k: u8) -> bool
+    requires { ⌜ k < 64 ⌝ }
+    ensures { λ r. ⌜ r ≡ slotAgrees s n k ⌝ }
+{
+    let x = n.slots[k as usize];
+    if x.kind != Slot::PAST {
+        return true;
+    }
+    event_agrees(s, n, Key(k), x)
+}
+
+// Each past record and what it made agree with its rule.
+pub fn events_agree(s: Script, n: Net) -> bool
+    ensures { λ r. ⌜ r ≡ all keyCount (slotAgrees s n) ⌝ }
+{
+    let mut k: u8 = 0;
+    while k < 64 {
+        if !slot_agrees(s, n, k) {
+            return false;
+        }
+        k += 1;
+    }
+    true
+}

@@ -1,0 +1,49 @@
+-- `target_there` meets its contract. Assumes nothing.
+use mathlib.Core.Path.{_≡_, _∙_, sym, ap}
+use borrow.Author.Tests.{eq-eqb, ne-eqb, lt-ltb, le-ltb, ltb-true, leb-true, not-true, not-false}
+use Rattle.step.specs.Tests.{checked, targetThere}
+use borrow.Author.Needs.{needs}
+use Rattle.step.proofs.checks.target_there.Statement.{statement}
+use Rattle.step.proofs.checks.target_there.Tie as tie
+use Rattle.step.proofs.checks.target_there.Reads as reads
+use Rattle.step.proofs.checks.target_there.Lts as lts
+use Rattle.names.proofs.Localities.has.Reads as has-reads
+use Rattle.names.proofs.Locality.is_locality.Reads as is-locality-reads
+use Rattle.products.proofs.has_target.Reads as has-target-reads
+use Rattle.step.proofs.checks.told.Reads as told-reads
+
+has-target-requires : tie.Need-has-target-requires
+has-target-requires c κs = search needs
+
+returns : tie.Need-returns
+unfolding checked targetThere
+returns c = rw (sym (c .before .has-target .ensures) ∙ not-true _ (c .if1 .taken))
+
+is-locality-requires : tie.Need-is-locality-requires
+is-locality-requires c κs = search needs
+
+returns-2 : tie.Need-returns-2
+unfolding checked targetThere
+returns-2 c = rw (sym (c .before .before .before .has-target .ensures) ∙ not-false _ (c .before .before .if1 .left), sym (c .before .is-locality .ensures) ∙ not-true _ (c .if2 .taken))
+
+has-requires : tie.Need-has-requires
+has-requires c κs = ltb-true _ 32 (sym (c .before .is-locality .ensures) ∙ not-false _ (c .if2 .left))
+
+told-requires : tie.Need-told-requires
+told-requires c κs = search needs
+
+returns-3 : tie.Need-returns-3
+unfolding checked targetThere
+returns-3 c = rw (sym (c .before .before .before .before .before .has-target .ensures) ∙ not-false _ (c .before .before .before .before .if1 .left), sym (c .before .before .before .is-locality .ensures) ∙ not-false _ (c .before .before .if2 .left), c .told .ensures, c .before .has .ensures)
+
+pub target-there-spec : {M : Type 1} → statement M
+target-there-spec =
+    tie.close
+    (tie.spec
+    has-target-requires
+    returns
+    is-locality-requires
+    returns-2
+    has-requires
+    told-requires
+    returns-3)

@@ -1,0 +1,44 @@
+-- What a step changes, and the net once that is written.
+-- In order: a slot at a key (`put`) or none (`nowhere`); a refusal (`refused`); a change written (`putIn`, `applied`).
+-- Assumes nothing.
+use mathlib.Core.Bool.{Bool}
+use mathlib.Core.List.{List}
+use lib.ListN.{set}
+use Rattle.laws.specs.Choice.{pick}
+use Rattle.names.specs.Names.{none, key, isKey}
+use Rattle.names.specs.Localities.{localities}
+use Rattle.names.specs.declared.Key.{Key}
+use Rattle.names.specs.declared.Localities.{Localities}
+use Rattle.images.specs.Net.{freeSlot}
+use Rattle.images.specs.declared.Slot.{Slot}
+use Rattle.images.specs.declared.Net.{Net}
+use Rattle.requests.specs.declared.Answer.{Answer}
+use Rattle.step.specs.declared.Put.{Put}
+use Rattle.step.specs.declared.Change.{Change}
+
+abbrev pub put : Key → Slot → Put
+put k x = record { key = k; slot = x }
+
+abbrev pub nowhere : Put
+nowhere = put (key none) freeSlot
+
+-- "any refusal leaves the net, with undone 0 and touched 0"
+unfoldable pub refused : Localities → Answer → Change
+refused present a =
+    record {
+      answer = a;
+      undone = 0;
+      touched = localities 0;
+      event = nowhere;
+      first = nowhere;
+      other = nowhere;
+      present = present;
+    }
+
+-- the net with a slot put at its key
+unfoldable pub putIn : Net → Put → Net
+putIn n p = pick (isKey (p .key)) (record { present = n .present; slots = set (n .slots) (p .key .0) (p .slot) }) n
+
+-- the net once the change is written
+unfoldable pub applied : Net → Change → Net
+applied n c = record { present = c .present; slots = putIn (putIn (putIn n (c .event)) (c .first)) (c .other) .slots }

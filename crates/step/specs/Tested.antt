@@ -1,0 +1,198 @@
+-- The checks that the code makes on slots are the checks of `requests`, of the net that the slots are from.
+-- In order: a node of a script, by its number (`node-is`, `no-node`); check by check, of a forward step (`forward-tests`); the answer of a
+-- forward step from the slots (`forward-by`), and what is changed by it (`forward-refused`, `forward-taken`); likewise backward.
+-- Assumes nothing.
+use Prim.Native.Nat.{ℕ, _<_, _≤_}
+use mathlib.Core.Path.{_≡_, refl, ap, ap₂, sym, _∙_, subst}
+use mathlib.Core.Bool.{Bool, true, false, _&&_, _||_, not}
+use mathlib.Core.List.{List, [], _∷_}
+use native.Mathlib.Omega.{arith}
+use lib.Dec.{eqb, ltb, leb}
+use lib.ListN.{length, getD, List·getD-eq-default}
+use borrow.Author.Tests.{ltb-false, ltb-true, lt-ltb}
+use Rattle.laws.specs.Choice.{pick, cases, _⇒_, and-right}
+use Rattle.laws.specs.Sets.{member}
+use Rattle.names.specs.Names.{nodeCount, localityCount, none, locality, isNode, isLocality}
+use Rattle.names.specs.Localities.{holds}
+use Rattle.names.specs.declared.Node.{Node}
+use Rattle.names.specs.declared.Key.{Key}
+use Rattle.images.specs.Script.{action0, actionAt}
+use Rattle.images.specs.Net.{slotWith, isFree}
+use Rattle.images.specs.Read.{nilAction, nodeWith}
+use Rattle.images.specs.declared.Action.{Action}
+use Rattle.images.specs.declared.Script.{Script}
+use Rattle.images.specs.declared.Slot as Image
+use Rattle.images.specs.declared.Net as Images
+use Rattle.nets.specs.Rules.{Act, acts, uses, aims, isNewloc, secondOf, isThere}
+use Rattle.nets.specs.Net as N
+use Rattle.nets.specs.Net.{isLive, isPast, isLiveTuple}
+use Rattle.products.specs.Body.{Body, bodyOf}
+use Rattle.products.specs.Products
+use Rattle.products.specs.Products.{isStep, meetsTuple, makesSecond, hasTarget, targetBy, readyBy, kindOf, fits}
+use Rattle.matching.specs.Match.{meets}
+use Rattle.rules.specs.Instance.{actOf, makeable, rulesOf}
+use Rattle.rules.specs.Acts.{uses-is, acts-is, aims-is, there-is, newloc-is}
+use Rattle.rules.specs.Roots.{rolledBy}
+use Rattle.rules.specs.View.{view, slotView, view-with, view-present, live-is, past-is, tuple-is, free-is}
+use Rattle.requests.specs.Checks.{refusal, check}
+use Rattle.requests.specs.Checks as C
+use Rattle.requests.specs.Answers as A
+use Rattle.requests.specs.Answers.{asNeeded, placesOf, forwardChecks}
+use Rattle.requests.specs.Requests.{asked, isDone, number, answerOf}
+use Rattle.requests.specs.declared.Request.{Request}
+use Rattle.requests.specs.declared.Answer.{Answer}
+use Rattle.step.specs.Change.{refused}
+use Rattle.step.specs.Tests.{placesBy, targetThere, tupleThere, templateMet, secondFresh, placeFresh, namesFresh, forwardTests}
+use Rattle.step.specs.Forward.{forwardAnswer, forwardDone, forwardChange}
+use Rattle.step.specs.declared.Change.{Change}
+
+-- ---- a node, by its number
+
+pub node-is : (s : Script) (k : Node) → isNode k ≡ true → nodeWith s k ≡ actionAt s (k .0)
+node-is s k h = rw h
+
+-- past the last node there is none, and what stands there does nothing
+pub no-node : (s : Script) → length (s .nodes) ≡ nodeCount → (k : Node) → isNode k ≡ false → (nodeWith s k .kind ≡ 0) × (actionAt s (k .0) .kind ≡ 0)
+no-node s nodes k h = (
+  rw h,
+  ap (λ (a : Action). a .kind) (List·getD-eq-default (s .nodes) action0 {n = k .0} (omega (arith, nodes, ltb-false (k .0) nodeCount h))),
+)
+
+pub kind-is : (s : Script) → length (s .nodes) ≡ nodeCount → (k : Node) → nodeWith s k .kind ≡ actionAt s (k .0) .kind
+kind-is s nodes k =
+    cases (isNode k) (λ h. ap (λ (a : Action). a .kind) (node-is s k h))
+    (λ h. no-node s nodes k h .0 ∙ sym (no-node s nodes k h .1))
+
+-- ---- places and fresh names
+
+places-is : (k : ℕ) (r : Request) → placesBy k r ≡ placesOf (actOf k) (asked r)
+unfolding placesBy placesOf
+places-is k r = rw (uses-is k, there-is k, newloc-is k)
+
+-- a locality that needs a maker is one that the set may hold
+place-is : (s : Script) (n : Images.Net) (p : ℕ) → (makeable p && not (member (n .present .0) p)) ≡ (makeable p && not (view s n .present p))
+place-is s n p =
+    cases (makeable p)
+    (λ t. rw (t, view-present s n p, and-right (leb 8 p) (ltb p localityCount) t))
+    (λ t. rw t)
+
+module _ (s : Script) (n : Images.Net) (r : Request) where
+  abbrev W : N.Net (rulesOf s)
+  W = view s n
+
+  abbrev x : Image.Slot
+  x = slotWith n (r .key)
+
+  abbrev t : Image.Slot
+  t = slotWith n (r .used)
+
+  abbrev a : Action
+  a = nodeWith s (x .node)
+
+  -- the checks of a forward step, with the node in hand
+  module _ (b : Action) (there : actionAt s (x .node .0) ≡ b) where
+    live-check : eqb (x .kind) 1 ≡ isLive (W .slot (r .key .0) .kind)
+    live-check = rw (view-with s n (r .key)) (sym (live-is (x .kind)))
+
+    ready-check : readyBy b (x .contents) ≡ rulesOf s .ready (W .slot (r .key .0) .body)
+    ready-check = rw (view-with s n (r .key), there)
+
+    act-is : rulesOf s .act (W .slot (r .key .0) .body) ≡ actOf (b .kind)
+    act-is =
+        ap (λ (z : N.Slot (rulesOf s)). rulesOf s .act (z .body)) (view-with s n (r .key)) ∙ ap (λ (y : Action). actOf (y .kind)) there
+
+    target-check : targetThere (b .kind) (n .present) (locality (targetBy b (x .contents))) ≡ (aims (rulesOf s .act (W .slot (r .key .0) .body)) ⇒ W .present (rulesOf s .target (W .slot (r .key .0) .body)))
+    unfolding targetThere
+    target-check = rw (act-is, aims-is (b .kind), view-with s n (r .key), there, view-present s n (targetBy b (x .contents)))
+
+    tuple-check : tupleThere (b .kind) t (locality (targetBy b (x .contents))) ≡ (uses (rulesOf s .act (W .slot (r .key .0) .body)) ⇒ A.tupleThere (rolledBy s) W (asked r))
+    unfolding tupleThere A.tupleThere
+    tuple-check = rw (act-is, uses-is (b .kind), view-with s n (r .key), view-with s n (r .used), there, tuple-is (t .kind))
+
+    match-check : templateMet b (x .contents) t ≡ (uses (rulesOf s .act (W .slot (r .key .0) .body)) ⇒ rulesOf s .fits (W .slot (r .key .0) .body) (W .slot (r .used .0) .body))
+    unfolding templateMet fits
+    match-check = rw (act-is, uses-is (b .kind), view-with s n (r .key), view-with s n (r .used), there)
+
+    fresh-check : namesFresh (b .kind) (slotWith n (r .first)) (slotWith n (r .second)) (n .present) r ≡ A.freshFree (rolledBy s) W (asked r)
+    unfolding namesFresh secondFresh placeFresh A.freshFree
+    fresh-check =
+        rw (
+          act-is,
+          there-is (b .kind),
+          newloc-is (b .kind),
+          view-with s n (r .first),
+          view-with s n (r .second),
+          free-is (slotWith n (r .first) .kind),
+          free-is (slotWith n (r .second) .kind),
+          ← place-is s n (r .place .0),
+        )
+
+    acts-check : isStep (b .kind) ≡ acts (rulesOf s .act (W .slot (r .key .0) .body))
+    acts-check = sym (ap acts act-is ∙ acts-is (b .kind))
+
+    places-check : placesBy (b .kind) r ≡ placesOf (rulesOf s .act (W .slot (r .key .0) .body)) (asked r)
+    places-check = places-is (b .kind) r ∙ ap (λ (z : Act). placesOf z (asked r)) (sym act-is)
+
+-- a refusal by the second check does not look further
+second-fails : (b c d e : Bool) (cs ds : List C.Check) → b ≡ c → d ≡ false → e ≡ false → refusal (check 4 b ∷ check 5 d ∷ cs) ≡ refusal (check 4 c ∷ check 5 e ∷ ds)
+unfolding refusal
+second-fails b c d e cs ds p q o = rw (p, q, o)
+
+module _ (s : Script) (nodes : length (s .nodes) ≡ nodeCount) (n : Images.Net) (r : Request) where
+  -- the answers agree: check by check where the process is at a node, and by check 5 where there is no such node
+  pub forward-tests : refusal (forwardTests (a s n r) (x s n r) (t s n r) (slotWith n (r .first)) (slotWith n (r .second)) (n .present) r) ≡ refusal (forwardChecks (rolledBy s) (W s n r) (asked r))
+  unfolding forwardTests forwardChecks
+  forward-tests =
+      cases (isNode (x s n r .node))
+      (λ h.
+      let there : actionAt s (x s n r .node .0) ≡ a s n r = sym (node-is s (x s n r .node) h) in
+      λ i.
+      refusal
+      (check 4 (live-check s n r (a s n r) there i) ∷ check 5 (acts-check s n r (a s n r) there i) ∷
+      check 6 (places-check s n r (a s n r) there i) ∷ check 7 (ready-check s n r (a s n r) there i) ∷
+      check 8 (target-check s n r (a s n r) there i) ∷ check 9 (tuple-check s n r (a s n r) there i) ∷
+      check 10 (match-check s n r (a s n r) there i) ∷ check 11 (fresh-check s n r (a s n r) there i) ∷ []))
+      (λ h.
+      let (here, there) = no-node s nodes (x s n r .node) h in
+      let same = live-check s n r (actionAt s (x s n r .node .0)) refl in
+      let does-not = sym (acts-check s n r (actionAt s (x s n r .node .0)) refl) ∙ ap isStep there in
+      second-fails _ _ _ _ _ _ same (ap isStep here) does-not)
+
+  -- ---- the forward step, from the slots that the code looks at
+
+  abbrev answered : Answer
+  answered = answerOf (refusal (forwardTests (a s n r) (x s n r) (t s n r) (slotWith n (r .first)) (slotWith n (r .second)) (n .present) r))
+
+  pub forward-answered : answered ≡ forwardAnswer s n r
+  unfolding forwardAnswer
+  forward-answered = ap answerOf forward-tests
+
+  pub forward-refused : isDone answered ≡ false → refused (n .present) answered ≡ forwardChange s n r
+  unfolding forwardChange
+  forward-refused h =
+      let no : isDone (forwardAnswer s n r) ≡ false = ap isDone (sym forward-answered) ∙ h in
+      rw no (ap (refused (n .present)) forward-answered)
+
+  pub forward-taken : isDone answered ≡ true → forwardDone (a s n r) (x s n r) (t s n r) (n .present) r ≡ forwardChange s n r
+  unfolding forwardChange
+  forward-taken h =
+      let yes : isDone (forwardAnswer s n r) ≡ true = ap isDone (sym forward-answered) ∙ h in
+      rw yes
+
+  -- from what the code's calls answered
+  module _ (x′ : Image.Slot) (a′ : Action) (t′ f g : Image.Slot) (o : Answer)
+      (is-x : x′ ≡ slotWith n (r .key)) (is-a : a′ ≡ nodeWith s (x′ .node)) (is-t : t′ ≡ slotWith n (r .used))
+      (is-f : f ≡ slotWith n (r .first)) (is-g : g ≡ slotWith n (r .second))
+      (is-o : o ≡ answerOf (refusal (forwardTests a′ x′ t′ f g (n .present) r))) where
+    the-node : a′ ≡ a s n r
+    the-node = is-a ∙ ap (λ (z : Image.Slot). nodeWith s (z .node)) is-x
+
+    the-answer : o ≡ answered
+    the-answer = is-o ∙ (λ i. answerOf (refusal (forwardTests (the-node i) (is-x i) (is-t i) (is-f i) (is-g i) (n .present) r)))
+
+    pub forward-no : isDone o ≡ false → (c : Change) → c ≡ refused (n .present) o → c ≡ forwardChange s n r
+    forward-no h c e = e ∙ ap (refused (n .present)) the-answer ∙ forward-refused (ap isDone (sym the-answer) ∙ h)
+
+    pub forward-yes : isDone o ≡ true → (c : Change) → c ≡ forwardDone a′ x′ t′ (n .present) r → c ≡ forwardChange s n r
+    forward-yes h c e =
+        e ∙ (λ i. forwardDone (the-node i) (is-x i) (is-t i) (n .present) r) ∙ forward-taken (ap isDone (sym the-answer) ∙ h)

@@ -1,0 +1,199 @@
+// The checks of document 01's table, each by a function that answers whether it holds.
+ghost use mathlib.Core.Path.{_≡_};
+ghost use lib.Dec.{eqb};
+ghost use Rattle.requests.specs.Answers.{asNeeded, noPlaces};
+ghost use Rattle.products.specs.Products.{isStep};
+ghost use Rattle.laws.specs.Choice.{_⇒_};
+ghost use Rattle.requests.specs.Requests.{asked, isDone};
+ghost use Rattle.step.specs.Tests.{checked, placesBy, targetThere, tupleThere, templateMet, secondFresh, placeFresh, namesFresh};
+use super::Check;
+use images::Action;
+use images::Datum;
+use images::Slot;
+use images::net_image::is_free;
+use matching::Match;
+use matching::match_tuple;
+use names::Localities;
+use names::Locality;
+use names::NONE;
+use names::Variable;
+use products::has_target;
+use products::is_step;
+use products::makes_second;
+use products::meets_tuple;
+use requests::Answer;
+use requests::Request;
+use requests::number;
+use rules::is_makeable;
+
+fn told(b: bool) -> Check
+    ensures { λ r. ⌜ r ≡ checked b ⌝ }
+{
+    if b {
+        return Check::Holds;
+    }
+    Check::Fails
+}
+
+// ---- 4 and 5: the process and its node
+
+pub fn is_live(x: Slot) -> Check
+    ensures { λ r. ⌜ r ≡ checked (eqb (x .kind) 1) ⌝ }
+{
+    let b = x.kind == Slot::LIVE;
+    told(b)
+}
+
+pub fn is_past(x: Slot) -> Check
+    ensures { λ r. ⌜ r ≡ checked (eqb (x .kind) 2) ⌝ }
+{
+    let b = x.kind == Slot::PAST;
+    told(b)
+}
+
+pub fn acts(a: Action) -> Check
+    ensures { λ r. ⌜ r ≡ checked (isStep (a .kind)) ⌝ }
+{
+    let b = is_step(a.kind);
+    told(b)
+}
+
+// ---- 6: a needed place is given, and an unneeded one is none
+
+fn as_needed(need: bool, b: u8) -> bool
+    ensures { λ r. ⌜ r ≡ asNeeded need b ⌝ }
+{
+    let given = b != NONE;
+    if need {
+        return given;
+    }
+    !given
+}
+
+pub fn places_given(kind: u8, r: Request) -> Check
+    ensures { λ o. ⌜ o ≡ checked (placesBy kind r) ⌝ }
+{
+    let meets = meets_tuple(kind);
+    if !as_needed(meets, r.used.0) {
+        return Check::Fails;
+    }
+    if !as_needed(true, r.first.0) {
+        return Check::Fails;
+    }
+    let two = makes_second(kind);
+    if !as_needed(two, r.second.0) {
+        return Check::Fails;
+    }
+    let makes = kind == Action::NEWLOC;
+    let b = as_needed(makes, r.place.0);
+    told(b)
+}
+
+pub fn none_placed(r: Request) -> Check
+    ensures { λ o. ⌜ o ≡ checked (noPlaces (asked r)) ⌝ }
+{
+    if !as_needed(false, r.used.0) {
+        return Check::Fails;
+    }
+    if !as_needed(false, r.first.0) {
+        return Check::Fails;
+    }
+    if !as_needed(false, r.second.0) {
+        return Check::Fails;
+    }
+    let b = as_needed(false, r.place.0);
+    told(b)
+}
+
+// ---- 8, 9 and 10: the target, the tuple there, and the match
+
+pub fn target_there(kind: u8, present: Localities, l: Locality) -> Check
+    ensures { λ r. ⌜ r ≡ checked (targetThere kind present l) ⌝ }
+{
+    if !has_target(kind) {
+        return Check::Holds;
+    }
+    if !l.is_locality() {
+        return Check::Fails;
+    }
+    let b = present.has(l);
+    told(b)
+}
+
+pub fn tuple_there(kind: u8, t: Slot, l: Locality) -> Check
+    ensures { λ r. ⌜ r ≡ checked (tupleThere kind t l) ⌝ }
+{
+    if !meets_tuple(kind) {
+        return Check::Holds;
+    }
+    if t.kind != Slot::TUPLE {
+        return Check::Fails;
+    }
+    let b = t.locality.0 == l.0;
+    told(b)
+}
+
+pub fn template_met(a: Action, vars: [Datum; Variable::COUNT], t: Slot) -> Check
+    ensures { λ r. ⌜ r ≡ checked (templateMet a vars t) ⌝ }
+{
+    if !meets_tuple(a.kind) {
+        return Check::Holds;
+    }
+    let fields = t.contents;
+    let m = match_tuple(vars, a, t.count, fields);
+    let answer = m.answer;
+    match answer {
+        Match::Matches => Check::Holds,
+        Match::Differs => Check::Fails,
+    }
+}
+
+// ---- 11: fresh names
+
+fn second_fresh(kind: u8, second: Slot, r: Request) -> bool
+    ensures { λ o. ⌜ o ≡ secondFresh kind second r ⌝ }
+{
+    if !makes_second(kind) {
+        return true;
+    }
+    if !is_free(second) {
+        return false;
+    }
+    r.first.0 != r.second.0
+}
+
+fn place_fresh(kind: u8, present: Localities, l: Locality) -> bool
+    ensures { λ r. ⌜ r ≡ placeFresh kind present l ⌝ }
+{
+    if kind != Action::NEWLOC {
+        return true;
+    }
+    if !is_makeable(l) {
+        return false;
+    }
+    !present.has(l)
+}
+
+pub fn names_fresh(kind: u8, first: Slot, second: Slot, present: Localities, r: Request) -> Check
+    ensures { λ o. ⌜ o ≡ checked (namesFresh kind first second present r) ⌝ }
+{
+    if !is_free(first) {
+        return Check::Fails;
+    }
+    if !second_fresh(kind, second, r) {
+        return Check::Fails;
+    }
+    let place = r.place;
+    let b = place_fresh(kind, present, place);
+    told(b)
+}
+
+// ---- the checks together
+
+// No check refused.
+pub fn all_hold(a: Answer) -> Check
+    ensures { λ r. ⌜ r ≡ checked (isDone a) ⌝ }
+{
+    let b = number(a) == 0;
+    told(b)
+}

@@ -1,0 +1,73 @@
+-- `localities_made` meets its contract. The loop's invariant: the marks are those of the events below `i`. Assumes nothing.
+use mathlib.Core.Logic.{⊎-elim}
+use borrow.Author.Tests.{eq-eqb, ne-eqb}
+use mathlib.Core.Path.{_≡_, _∙_, sym}
+use Prim.Native.Nat.{_-_, _≤_}
+use native.Mathlib.Omega.{arith}
+use Rattle.traces.specs.Traces.{placeAt, placeMarks}
+use Rattle.traces.specs.Marks.{places-start, place-none, place-more}
+use borrow.Author.Needs.{needs}
+use Rattle.traces.proofs.localities_made.Statement.{statement}
+use Rattle.traces.proofs.localities_made.Tie as tie
+use Rattle.traces.proofs.localities_made.Reads as reads
+use Rattle.traces.proofs.localities_made.Lts as lts
+use Rattle.traces.proofs.mark_place.Reads as mark-place-reads
+
+abbrev Inv-loop : tie.InvT-loop
+Inv-loop deeds n m₀ i₀ m i = (i ≤ 64) × (m ≡ placeMarks i (placeAt deeds n))
+
+abbrev μ-loop : tie.MeasureT-loop
+μ-loop deeds n m₀ i₀ m i = 64 - i
+
+loop-holds : tie.Need-loop-holds Inv-loop μ-loop
+loop-holds c = (search needs, sym (places-start _))
+
+array-read-if1 : tie.Need-array-read-if1 Inv-loop μ-loop
+array-read-if1 c = search needs
+
+mul-x : tie.Need-mul-x Inv-loop μ-loop
+mul-x c = search needs
+
+element-copy-out-x : tie.Need-element-copy-out-x Inv-loop μ-loop
+element-copy-out-x c = search needs
+
+mark-place-requires : tie.Need-mark-place-requires Inv-loop μ-loop
+mark-place-requires c κs = search needs
+
+add-i : tie.Need-add-i Inv-loop μ-loop
+add-i c = search needs
+
+loop-less : tie.Need-loop-less Inv-loop μ-loop
+loop-less c = search needs
+
+loop-again : tie.Need-loop-again Inv-loop μ-loop
+loop-again c =
+    let l = c .before .before .loop in
+    let a = c .before .before .before .args in (
+      search needs,
+      ⊎-elim (λ w. w .4 ∙ w .3 .ensures ∙ place-more (a .t1) (a .t2) (l .i) (l .m) (l .inv .1) (eq-eqb _ _ (w .0 .taken)))
+          (λ w. w .1 ∙ place-none (a .t1) (a .t2) (l .i) (l .m) (l .inv .1) (ne-eqb _ _ (w .0 .left)))
+          (c .if1 .came),
+    )
+
+returns : tie.Need-returns Inv-loop μ-loop
+returns c =
+    let l = c .before .loop in
+    let e : l .i ≡ 64 = omega arith in
+    rw e at (l .inv .1)
+
+pub localities-made-spec : {M : Type 1} → statement M
+localities-made-spec =
+    tie.close
+    (tie.spec
+    Inv-loop
+    μ-loop
+    loop-holds
+    array-read-if1
+    mul-x
+    element-copy-out-x
+    mark-place-requires
+    add-i
+    loop-less
+    loop-again
+    returns)

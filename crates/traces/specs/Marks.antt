@@ -1,0 +1,304 @@
+-- What each turn of a loop over the events finds: the laws that its proof applies, over plain variables.
+--
+-- In order: a node that is none (`no-node`); numbers that rows speak of, and whether each was spoken of once, at any width W (`Seen`, `seen`,
+-- `saw`), with one row more, of no number, one, or two (`seen-none`, `seen-one`, `seen-two`); events as a set, with one slot more
+-- (`event-none`, `event-more`); marks of keys and of localities, with one row more (`keys-none`, `keys-one`, `keys-two`); what one
+-- event more made or used (`made-none`, `made-more`, `used-none`, `used-more`, `place-none`, `place-more`); no event yet (`keys-start`,
+-- `places-start`); users of tuples, with no event yet and one event more (`users-start`, `users-none`, `users-more`); the
+-- rows of dependence (`rows-are`).
+-- Assumes nothing.
+use mathlib.Core.Path.{_≡_, refl, sym, ap, ap₂, _∙_}
+use mathlib.Core.Bool.{Bool, true, false, not, _&&_, _||_, and-true, or-false}
+use mathlib.Core.Logic.{_≢_}
+use mathlib.Core.List.{List}
+use Prim.Native.Nat.{ℕ, _+_, _≤_, _<_}
+use native.Mathlib.Nat.{not-suc-le-zero}
+use native.Mathlib.Omega.{arith}
+use lib.Dec.{eqb, ltb}
+use lib.ListN.{length, getD, set, replicate, length-set, length-replicate, getD-replicate, List·getD-eq-default}
+use lib.Pow.{pow-pos}
+use lib.Seq.{getD-set-same, getD-set-other}
+use borrow.Author.Tests.{eqb-true, eqb-false, eq-eqb, ne-eqb, ltb-true, ltb-false, lt-ltb}
+use Rattle.laws.specs.Choice.{pick, cases, agree}
+use Rattle.laws.specs.Lists.{tab, tab-of, tab-ext, length-tab, getD-tab}
+use Rattle.laws.specs.Sets.{member, including, member-including-other, member-empty}
+use Rattle.order.specs.KeySets.{Set, only, _∪_, _∩_, any, any-not}
+use Rattle.order.specs.Distinct.{gathered, gathered-next, distinct, distinct-next, row-none, row-one, row-two}
+use Rattle.order.specs.Words.{wordOf, wordOf-in, wordOf-is, wordOf-next, wordOf-ext, wordOf-more}
+use Rattle.names.specs.Names.{keyCount, localityCount, nodeCount, key}
+use Rattle.names.specs.KeySets.{keys}
+use Rattle.names.specs.Localities.{localities}
+use Rattle.names.specs.declared.Key.{Key}
+use Rattle.names.specs.declared.Keys.{Keys}
+use Rattle.names.specs.declared.Locality.{Locality}
+use Rattle.images.specs.Script.{action0, actionAt}
+use Rattle.images.specs.Net.{slotAt}
+use Rattle.images.specs.declared.Action.{Action}
+use Rattle.images.specs.declared.Script.{Script}
+use Rattle.images.specs.declared.Net.{Net}
+use Rattle.traces.specs.Traces.{deedAt, isEvent, madeAt, usedAt, placeAt, markedKey, markedKeys, markedPlace, keyMarks, placeMarks, withUser, usersBelow, usersOf, rowOf, rowsOf}
+use Rattle.traces.specs.declared.KeyMarks.{KeyMarks}
+use Rattle.traces.specs.declared.PlaceMarks.{PlaceMarks}
+use Rattle.traces.specs.declared.Users.{Users}
+
+-- a number that is no node's does nothing
+pub no-node : (s : Script) (i : ℕ) → length (s .nodes) ≡ nodeCount → nodeCount ≤ i → actionAt s i .kind ≡ 0
+no-node s i e h = ap (λ (a : Action). a .kind) (List·getD-eq-default (s .nodes) action0 (omega (arith, e)))
+
+same-number : (a b : ℕ) → eqb a b ≡ eqb b a
+same-number a b = agree (eqb a b) (eqb b a) (λ t. eq-eqb b a (sym (eqb-true a b t))) (λ t. eq-eqb a b (sym (eqb-true b a t)))
+
+-- ---- numbers spoken of, at any width
+
+-- whether each was spoken of once, and all of them as a word
+record Seen : Type 0 where
+  once : Bool
+  word : ℕ
+
+-- the first i rows together, and whether no two share a number
+abbrev seen : ℕ → ℕ → (ℕ → Set) → Seen
+seen W i Q = record { once = distinct W i Q; word = wordOf W (gathered i Q) }
+
+-- one number more
+abbrev saw : ℕ → Seen → ℕ → Seen
+saw W m a = pick (ltb a W) (record { once = m .once && not (member (m .word) a); word = including (m .word) a }) m
+
+module _ (W i : ℕ) (Q : ℕ → Set) where
+  -- what the rows before hold
+  abbrev G : Set
+  G = gathered i Q
+
+  -- the row i has a number in common with them or not, and holds the numbers of R
+  once-next : (b : Bool) → any W (Q i ∩ G) ≡ b → distinct W (i + 1) Q ≡ (distinct W i Q && not b)
+  once-next b e = distinct-next W i Q ∙ ap (λ (x : Bool). distinct W i Q && not x) e
+
+  word-next : (R : Set) → ((k : ℕ) → k < W → Q i k ≡ R k) → wordOf W (gathered (i + 1) Q) ≡ wordOf W (R ∪ G)
+  word-next R h =
+      wordOf-ext W (gathered (i + 1) Q) (R ∪ G) (λ k l. gathered-next i Q k ∙ ap (λ (x : Bool). x || G k) (h k l))
+
+  seen-none : ((k : ℕ) → k < W → Q i k ≡ false) → seen W (i + 1) Q ≡ seen W i Q
+  seen-none h =
+      let once : distinct W (i + 1) Q ≡ distinct W i Q = once-next false (row-none W (Q i) G h) ∙ and-true (distinct W i Q) in
+      let word : wordOf W (gathered (i + 1) Q) ≡ wordOf W G = word-next (λ k. false) h in
+      λ t. record { once = once t; word = word t }
+
+  -- a row of one number, which is seen again if it was seen before
+  seen-in : (a : ℕ) → a < W → ((k : ℕ) → k < W → Q i k ≡ eqb k a) → seen W (i + 1) Q ≡ record { once = distinct W i Q && not (member (wordOf W G) a); word = including (wordOf W G) a }
+  seen-in a l h =
+      let once = once-next (member (wordOf W G) a) (row-one W (Q i) G a l h ∙ sym (wordOf-in W G a l)) in
+      let word = word-next (only a) h ∙ sym (wordOf-more W G a l) in
+      λ t. record { once = once t; word = word t }
+
+  seen-one : (a : ℕ) → ((k : ℕ) → k < W → Q i k ≡ eqb k a) → seen W (i + 1) Q ≡ saw W (seen W i Q) a
+  seen-one a h =
+      cases (ltb a W) (λ p. rw p (seen-in a (ltb-true a W p) h))
+      (λ p. rw p (seen-none (λ k l. h k l ∙ ne-eqb k a (λ e. omega (arith, ltb-false a W p)))))
+
+  -- a row of two numbers
+  seen-both : (a b : ℕ) → a < W → b < W → b ≢ a → ((k : ℕ) → k < W → Q i k ≡ (eqb k a || eqb k b)) → seen W (i + 1) Q ≡ record { once = (distinct W i Q && not (member (wordOf W G) a)) && not (member (including (wordOf W G) a) b); word = including (including (wordOf W G) a) b }
+  seen-both a b l m d h =
+      let w = wordOf W G in
+      let again : (G a || G b) ≡ (member w a || member (including w a) b) =
+      ap₂ (λ (x y : Bool). x || y) (sym (wordOf-in W G a l)) (sym (member-including-other w a b d ∙ wordOf-in W G b m)) in
+      let once = once-next _ (row-two W (Q i) G a b l m h ∙ again) ∙ neither (distinct W i Q) (member w a) (member (including w a) b) in
+      let word : wordOf W (gathered (i + 1) Q) ≡ including (including w a) b =
+      word-next (only a ∪ only b) h ∙ wordOf-ext W (only a ∪ only b ∪ G) (only b ∪ (only a ∪ G)) (λ k _. swap (eqb k a) (eqb k b) (G k)) ∙
+      sym (ap (λ (v : ℕ). including v b) (wordOf-more W G a l) ∙ wordOf-more W (only a ∪ G) b m) in
+      λ t. record { once = once t; word = word t }
+    where
+      neither : (x y z : Bool) → (x && not (y || z)) ≡ ((x && not y) && not z)
+      neither false y z = refl
+      neither true true z = refl
+      neither true false z = refl
+
+      swap : (x y z : Bool) → ((x || y) || z) ≡ (y || (x || z))
+      swap true true z = refl
+      swap true false z = refl
+      swap false true z = refl
+      swap false false z = refl
+
+  seen-two : (a b : ℕ) → b ≢ a → ((k : ℕ) → k < W → Q i k ≡ (eqb k a || eqb k b)) → seen W (i + 1) Q ≡ saw W (saw W (seen W i Q) a) b
+  seen-two a b d h =
+      cases (ltb a W)
+      (λ p.
+      cases (ltb b W) (λ q. rw (p, q) (seen-both a b (ltb-true a W p) (ltb-true b W q) d h))
+      (λ q. rw (p, q) (seen-in a (ltb-true a W p) (λ k l. h k l ∙ rw (ne-eqb k b (λ e. omega (arith, ltb-false b W q))) (or-false (eqb k a))))))
+      (λ p. rw p (seen-one b (λ k l. h k l ∙ rw (ne-eqb k a (λ e. omega (arith, ltb-false a W p))))))
+
+-- ---- events as a set
+
+-- with one slot more, which holds no event or holds one
+pub event-none : (n : Net) (e : ℕ) (s : Keys) → s ≡ keys (wordOf e (isEvent n)) → isEvent n e ≡ false → s ≡ keys (wordOf (e + 1) (isEvent n))
+event-none n e s h p = h ∙ sym (ap keys (wordOf-next e (isEvent n) ∙ rw p))
+
+pub event-more : (n : Net) (e : ℕ) (s : Keys) → s ≡ keys (wordOf e (isEvent n)) → isEvent n e ≡ true → keys (including (s .0) e) ≡ keys (wordOf (e + 1) (isEvent n))
+event-more n e s h p = ap (λ (x : Keys). keys (including (x .0) e)) h ∙ sym (ap keys (wordOf-next e (isEvent n) ∙ rw p))
+
+-- ---- marks of keys
+
+-- the same as marks
+abbrev keyMarksOf : Seen → KeyMarks
+keyMarksOf m = record { once = m .once; keys = keys (m .word) }
+
+marked-key : (m : Seen) (a : Key) → keyMarksOf (saw keyCount m (a .0)) ≡ markedKey (keyMarksOf m) a
+unfolding markedKey
+marked-key m a = cases (ltb (a .0) keyCount) (λ p. rw p) (λ p. rw p)
+
+module _ (i : ℕ) (Q : ℕ → Set) where
+  pub keys-none : ((k : ℕ) → k < keyCount → Q i k ≡ false) → keyMarks (i + 1) Q ≡ keyMarks i Q
+  unfolding keyMarks
+  keys-none h = ap keyMarksOf (seen-none keyCount i Q h)
+
+  pub keys-one : (a : Key) → ((k : ℕ) → k < keyCount → Q i k ≡ eqb (a .0) k) → keyMarks (i + 1) Q ≡ markedKey (keyMarks i Q) a
+  unfolding keyMarks
+  keys-one a h =
+      ap keyMarksOf (seen-one keyCount i Q (a .0) (λ k l. h k l ∙ same-number (a .0) k)) ∙ marked-key (seen keyCount i Q) a
+
+  -- "3 and 4 keys made"
+  pub keys-two : (a b : Key) → ((k : ℕ) → k < keyCount → Q i k ≡ (eqb (a .0) k || eqb (b .0) k)) → keyMarks (i + 1) Q ≡ markedKeys (keyMarks i Q) a b
+  unfolding keyMarks markedKeys
+  keys-two a b h =
+      cases (eqb (a .0) (b .0)) (λ p. rw p (keys-one a (λ k l. h k l ∙ rw (← eqb-true (a .0) (b .0) p) (or-self (eqb (a .0) k)))))
+      (λ p. rw p (apart (λ e. eqb-false (a .0) (b .0) p (sym e))))
+    where
+      or-self : (x : Bool) → (x || x) ≡ x
+      or-self true = refl
+      or-self false = refl
+
+      apart : b .0 ≢ a .0 → keyMarks (i + 1) Q ≡ markedKey (markedKey (keyMarks i Q) a) b
+      apart d =
+          ap keyMarksOf
+          (seen-two keyCount i Q (a .0) (b .0) d
+          (λ k l. h k l ∙ ap₂ (λ (x y : Bool). x || y) (same-number (a .0) k) (same-number (b .0) k))) ∙
+          marked-key (saw keyCount (seen keyCount i Q) (a .0)) b ∙
+          ap (λ (m : KeyMarks). markedKey m b) (marked-key (seen keyCount i Q) a)
+
+-- the keys that events made, with one more slot, which holds no event or holds one
+module _ (n : Net) (e : ℕ) (m : KeyMarks) (h : m ≡ keyMarks e (madeAt n)) where
+  pub made-none : isEvent n e ≡ false → m ≡ keyMarks (e + 1) (madeAt n)
+  made-none p = h ∙ sym (keys-none e (madeAt n) (λ k l. rw p))
+
+  pub made-more : isEvent n e ≡ true → markedKeys m (slotAt n e .first) (slotAt n e .second) ≡ keyMarks (e + 1) (madeAt n)
+  made-more p =
+      ap (λ (x : KeyMarks). markedKeys x (slotAt n e .first) (slotAt n e .second)) h ∙
+      sym (keys-two e (madeAt n) (slotAt n e .first) (slotAt n e .second) (λ k l. rw (p, lt-ltb k keyCount l)))
+
+-- the tuples that events used whose deed is d, with one more slot
+module _ (d : ℕ) (ds : List ℕ) (n : Net) (e : ℕ) (m : KeyMarks) (h : m ≡ keyMarks e (usedAt d ds n)) where
+  pub used-none : eqb (deedAt ds e) d ≡ false → m ≡ keyMarks (e + 1) (usedAt d ds n)
+  used-none p = h ∙ sym (keys-none e (usedAt d ds n) (λ k l. rw p))
+
+  pub used-more : eqb (deedAt ds e) d ≡ true → markedKey m (slotAt n e .used) ≡ keyMarks (e + 1) (usedAt d ds n)
+  used-more p =
+      ap (λ (x : KeyMarks). markedKey x (slotAt n e .used)) h ∙
+      sym (keys-one e (usedAt d ds n) (slotAt n e .used) (λ k l. rw p))
+
+-- ---- marks of localities
+
+abbrev placeMarksOf : Seen → PlaceMarks
+placeMarksOf m = record { once = m .once; set = localities (m .word) }
+
+marked-place : (m : Seen) (a : Locality) → placeMarksOf (saw localityCount m (a .0)) ≡ markedPlace (placeMarksOf m) a
+unfolding markedPlace
+marked-place m a = cases (ltb (a .0) localityCount) (λ p. rw p) (λ p. rw p)
+
+-- the localities that newlocs made, with one more slot
+module _ (ds : List ℕ) (n : Net) (e : ℕ) (m : PlaceMarks) (h : m ≡ placeMarks e (placeAt ds n)) where
+  pub place-none : eqb (deedAt ds e) 4 ≡ false → m ≡ placeMarks (e + 1) (placeAt ds n)
+  unfolding placeMarks
+  place-none p = h ∙ sym (ap placeMarksOf (seen-none localityCount e (placeAt ds n) (λ l _. rw p)))
+
+  pub place-more : eqb (deedAt ds e) 4 ≡ true → markedPlace m (slotAt n e .place) ≡ placeMarks (e + 1) (placeAt ds n)
+  unfolding placeMarks
+  place-more p =
+      ap (λ (x : PlaceMarks). markedPlace x (slotAt n e .place)) h ∙
+      sym
+      (ap placeMarksOf
+      (seen-one localityCount e (placeAt ds n) (slotAt n e .place .0) (λ l _. rw p (same-number (slotAt n e .place .0) l))) ∙
+      marked-place (seen localityCount e (placeAt ds n)) (slotAt n e .place))
+
+-- ---- no event yet
+
+no-numbers : (W : ℕ) (Q : ℕ → Set) → wordOf W (gathered 0 Q) ≡ 0
+no-numbers W Q =
+    sym
+    (wordOf-is W (gathered 0 Q) 0 (pow-pos W)
+    (λ k _. member-empty k ∙ sym (any-not 0 (λ e. Q e k) (λ x l. absurd (not-suc-le-zero l)))))
+
+pub keys-start : (Q : ℕ → Set) → keyMarks 0 Q ≡ record { once = true; keys = keys 0 }
+unfolding keyMarks distinct
+keys-start Q = λ t. record { once = true; keys = keys (no-numbers keyCount Q t) }
+
+pub places-start : (Q : ℕ → Set) → placeMarks 0 Q ≡ record { once = true; set = localities 0 }
+unfolding placeMarks distinct
+places-start Q = λ t. record { once = true; set = localities (no-numbers localityCount Q t) }
+
+-- ---- users of tuples
+
+-- a table with one element stored is the table of what agrees elsewhere
+store-tab : {A : Type 0} (k : ℕ) (f g : ℕ → A) (u : ℕ) (v d : A) → u < k → v ≡ g u → ((t : ℕ) → t ≢ u → f t ≡ g t) → set (tab k f) u v ≡ tab k g
+store-tab k f g u v d l e h =
+    tab-of k g (set (tab k f) u v) d (length-set (tab k f) u v ∙ length-tab k f)
+    (λ t m.
+    cases (eqb t u)
+    (λ p. rw (eqb-true t u p) (getD-set-same (tab k f) u v d (rw (length-tab k f) l) ∙ e))
+    (λ p. getD-set-other (tab k f) u t v d (eqb-false t u p) ∙ getD-tab k f t d m ∙ h t (eqb-false t u p)))
+
+module _ (d : ℕ) (ds : List ℕ) (n : Net) where
+  -- the users of the tuple t among the first e events, and with one event more
+  abbrev usersAt : ℕ → ℕ → Keys
+  usersAt e t = keys (wordOf e (λ f. usedAt d ds n f t))
+
+  users-next : (e t : ℕ) → usersAt (e + 1) t ≡ pick (usedAt d ds n e t) (keys (including (usersAt e t .0) e)) (usersAt e t)
+  users-next e t =
+      ap keys (wordOf-next e (λ f. usedAt d ds n f t)) ∙ cases (usedAt d ds n e t) (λ p. rw p) (λ p. rw p)
+
+  pub users-start : record { of = replicate keyCount (keys 0) } ≡ usersBelow 0 d ds n
+  unfolding usersBelow wordOf
+  users-start =
+      let none = tab-of keyCount (usersAt 0) (replicate keyCount (keys 0)) (keys 0) (length-replicate keyCount (keys 0)) (λ t l. getD-replicate keyCount t (keys 0) (keys 0) l) in
+      λ i. record { of = none i }
+
+  -- one event more that used no tuple, or only the tuple u
+  same-users : (e : ℕ) → ((t : ℕ) → t < keyCount → usedAt d ds n e t ≡ false) → tab keyCount (usersAt (e + 1)) ≡ tab keyCount (usersAt e)
+  same-users e h = tab-ext keyCount (usersAt (e + 1)) (usersAt e) (λ t l. users-next e t ∙ rw (h t l))
+
+  more-users : (e u : ℕ) → u < keyCount → usedAt d ds n e u ≡ true → ((t : ℕ) → t ≢ u → usedAt d ds n e t ≡ false) → tab keyCount (usersAt (e + 1)) ≡ set (tab keyCount (usersAt e)) u (keys (including (getD (tab keyCount (usersAt e)) u (keys 0) .0) e))
+  more-users e u l h g =
+      let there = ap (λ (s : Keys). keys (including (s .0) e)) (getD-tab keyCount (usersAt e) u (keys 0) l) in
+      sym
+      (store-tab keyCount (usersAt e) (usersAt (e + 1)) u _ (keys 0) l (there ∙ sym (users-next e u ∙ rw h))
+      (λ t z. sym (users-next e t ∙ rw (g t z))))
+
+  -- one slot more
+  module _ (e : ℕ) (us : Users) (h : us ≡ usersBelow e d ds n) where
+    pub users-none : eqb (deedAt ds e) d ≡ false → us ≡ usersBelow (e + 1) d ds n
+    unfolding usersBelow
+    users-none p = let same = same-users e (λ t l. rw p) in h ∙ (λ i. record { of = sym same i })
+
+    pub users-more : eqb (deedAt ds e) d ≡ true → withUser us (slotAt n e .used) (key e) ≡ usersBelow (e + 1) d ds n
+    unfolding usersBelow withUser
+    users-more p = ap (λ (x : Users). withUser x (slotAt n e .used) (key e)) h ∙ cases (ltb used keyCount) within beyond
+      where
+        used : ℕ
+        used = slotAt n e .used .0
+
+        within : ltb used keyCount ≡ true → withUser (usersBelow e d ds n) (key used) (key e) ≡ usersBelow (e + 1) d ds n
+        within q =
+            let more =
+            more-users e used (ltb-true used keyCount q) (rw p (eq-eqb used used refl)) (λ t z. rw p (ne-eqb used t (λ x. z (sym x)))) in
+            rw q (λ i. record { of = sym more i })
+
+        beyond : ltb used keyCount ≡ false → withUser (usersBelow e d ds n) (key used) (key e) ≡ usersBelow (e + 1) d ds n
+        beyond q =
+            let same = same-users e (λ t l. rw p (ne-eqb used t (λ z. omega (arith, ltb-false used keyCount q)))) in
+            rw q (λ i. record { of = sym same i })
+
+-- ---- who depends on whom
+
+-- an array whose elements are the rows, by the takers and readers of the tuples, is all rows
+pub rows-are : (ds : List ℕ) (n : Net) (events : Keys) (takers readers : Users) (rows : List Keys) → takers ≡ usersOf 2 ds n → readers ≡ usersOf 3 ds n → length rows ≡ keyCount → ((e : ℕ) → e < keyCount → getD rows e (keys 0) ≡ rowOf (deedAt ds e) (slotAt n e) events takers readers) → rows ≡ rowsOf ds n events
+unfolding rowsOf
+rows-are ds n events takers readers rows t r l h =
+    tab-of keyCount (λ e. rowOf (deedAt ds e) (slotAt n e) events takers readers) rows (keys 0) l h ∙
+    ap₂ (λ (x y : Users). tab keyCount (λ e. rowOf (deedAt ds e) (slotAt n e) events x y)) t r
