@@ -140,9 +140,9 @@ fn forward_done(a: Action, x: Slot, t: Slot, present: Localities, r: Request) ->
     let fields = t.contents;
     let place = r.place;
     let next = continuation(a, key, x, fields, place);
-    let one = r.first;
+    let at = r.first;
     let first = Put {
-        key: one,
+        key: at,
         slot: next,
     };
     let other = forward_other(a, x, t, r);
