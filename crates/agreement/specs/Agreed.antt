@@ -35,12 +35,12 @@ use Rattle.nets.specs.Net.{live, tuple, isPast, isLiveTuple, Slot, Net, fresh, 
 use Rattle.nets.specs.Rule.{met, besides, product}
 use Rattle.nets.specs.Accepting.{placed, fitting, ruled, sameSlot, agreed}
 use Rattle.products.specs.Body.{Body, bodyOf, liveProcess, liveTuple}
-use Rattle.products.specs.Products.{isStep, isOut, isEval, isSplit, isNewloc, meetsTuple, makesSecond, hasTarget, targetBy, readyBy, target, fits, variablesAfter, referencesAfter, continuedBy, tupleBy, processBy, secondBy, secondSlot}
+use Rattle.products.specs.Products.{isStep, isOut, isEval, isSplit, isNewloc, meetsTuple, makesSecond, hasTarget, targetBy, targetThere, readyBy, target, fits, variablesAfter, referencesAfter, continuedBy, tupleBy, processBy, secondBy, secondSlot}
 use Rattle.rules.specs.Acts.{acts-is, uses-is, aims-is, newloc-is, there-is}
 use Rattle.rules.specs.Instance.{actOf, makeable, rulesOf, next}
 use Rattle.rules.specs.View.{kindAs, past-is, slotView, view, view-slot, view-with, view-present}
 use Rattle.rules.specs.Same.{sameList, sameDatum, sameKey, sameBody}
-use Rattle.agreement.specs.Agreement.{placedBy, targetThere, tupleFits, ruledBy, sameData, sameRefs, sameRecord, standsAs, secondStands, productsStand, agreesAt, slotAgrees}
+use Rattle.agreement.specs.Agreement.{placedBy, tupleFits, ruledBy, sameData, sameRefs, sameRecord, standsAs, secondStands, productsStand, agreesAt, slotAgrees}
 
 -- ---- conjunctions that stop early
 

@@ -1,6 +1,6 @@
 -- An event, its rule and what it made, as the code tests them on slots. Nothing here must be believed: `Agreed` proves these tests to be the
 -- theory's (`nets`, `Accepting`).
--- In order: the places of an event (`placedBy`); its rule (`targetThere`, `tupleFits`, `ruledBy`); what it made (`standsAs`, `productsStand`);
+-- In order: the places of an event (`placedBy`); its rule (`tupleFits`, `ruledBy`); what it made (`standsAs`, `productsStand`);
 -- a slot that agrees if it holds an event (`slotAgrees`).
 -- Assumes nothing.
 use Prim.Native.Nat.{ℕ}
@@ -24,7 +24,7 @@ use Rattle.images.specs.declared.Slot.{Slot}
 use Rattle.images.specs.declared.Net.{Net}
 use Rattle.matching.specs.Match.{meets}
 use Rattle.products.specs.Body.{bodyOf, liveProcess}
-use Rattle.products.specs.Products.{isStep, isOut, isNewloc, meetsTuple, makesSecond, hasTarget, targetBy, readyBy, continuedBy, secondSlot}
+use Rattle.products.specs.Products.{isStep, isOut, isNewloc, meetsTuple, makesSecond, targetBy, targetThere, readyBy, continuedBy, secondSlot}
 use Rattle.rules.specs.Instance.{makeable}
 
 -- ---- the places of an event
@@ -42,9 +42,6 @@ placedBy kind x =
     (not (eqb (x .first .0) (x .second .0)) && (keyNeeded (meetsTuple kind) (x .used) && placeNeeded (isNewloc kind) (x .place))))
 
 -- ---- its rule
-
-unfoldable pub targetThere : ℕ → Localities → Locality → Bool
-targetThere kind present l = hasTarget kind ⇒ (isLocality l && holds present l)
 
 -- a tuple, live or consumed
 abbrev pub isTuple : Slot → Bool

@@ -3,7 +3,7 @@ ghost use mathlib.Core.Path.{_≡_};
 ghost use Prim.Native.Nat.{_<_};
 ghost use Rattle.laws.specs.Checks.{all};
 ghost use Rattle.names.specs.Names.{keyCount};
-ghost use Rattle.agreement.specs.Agreement.{keyNeeded, placeNeeded, placedBy, targetThere, isTuple, tupleFits, ruledBy, sameData, sameRefs, sameRecord, standsAs, secondStands, productsStand, agreesAt, slotAgrees};
+ghost use Rattle.agreement.specs.Agreement.{keyNeeded, placeNeeded, placedBy, isTuple, tupleFits, ruledBy, sameData, sameRefs, sameRecord, standsAs, secondStands, productsStand, agreesAt, slotAgrees};
 use images::Action;
 use images::Datum;
 use images::Net;
@@ -22,12 +22,12 @@ use names::Variable;
 use products::Readiness;
 use products::continuation;
 use products::evaluable;
-use products::has_target;
 use products::is_step;
 use products::makes_second;
 use products::meets_tuple;
 use products::second_made;
 use products::target_of;
+use products::target_there;
 use rules::is_makeable;
 
 // ---- the places of an event
@@ -77,18 +77,6 @@ fn places_right(kind: u8, x: Slot) -> bool
 }
 
 // ---- its rule
-
-fn target_there(kind: u8, present: Localities, l: Locality) -> bool
-    ensures { λ r. ⌜ r ≡ targetThere kind present l ⌝ }
-{
-    if !has_target(kind) {
-        return true;
-    }
-    if !l.is_locality() {
-        return false;
-    }
-    present.has(l)
-}
 
 fn is_tuple(t: Slot) -> bool
     ensures { λ r. ⌜ r ≡ isTuple t ⌝ }

@@ -9,11 +9,13 @@ use mathlib.Core.List.{List}
 use mathlib.Core.Bool.{Bool, true, false, _&&_, _||_, not}
 use lib.Dec.{eqb, ltb, leb}
 use lib.ListN.{set, replicate}
-use Rattle.laws.specs.Choice.{pick, cases}
+use Rattle.laws.specs.Choice.{pick, cases, _⇒_}
 use Rattle.laws.specs.Lists.{tab}
-use Rattle.names.specs.Names.{none, referenceCount, key, locality, node}
+use Rattle.names.specs.Names.{none, referenceCount, key, locality, node, isLocality}
+use Rattle.names.specs.Localities.{holds}
 use Rattle.names.specs.declared.Key.{Key}
 use Rattle.names.specs.declared.Locality.{Locality}
+use Rattle.names.specs.declared.Localities.{Localities}
 use Rattle.images.specs.Script.{actionAt, fieldAt}
 use Rattle.images.specs.Net.{datum0}
 use Rattle.images.specs.declared.Field.{Field}
@@ -85,6 +87,10 @@ targetBy a vars = numberOf (targetOf vars (a .target))
 unfoldable pub readyBy : Action → List Datum → Bool
 readyBy a vars =
     pick (hasTarget (a .kind)) (isFound (targetOf vars (a .target))) true && pick (hasFields (a .kind)) (fieldsReady vars a) true
+
+-- "targets present": where the node acts at a target, that locality is present (check 8)
+unfoldable pub targetThere : ℕ → Localities → Locality → Bool
+targetThere kind present l = hasTarget kind ⇒ (isLocality l && holds present l)
 
 -- ---- the continuation
 -- "an in or read binds its formals, newloc binds its variable"

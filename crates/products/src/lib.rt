@@ -9,7 +9,7 @@ ghost use Rattle.images.specs.Net.{datum0};
 ghost use Rattle.images.specs.Script.{fieldAt};
 ghost use Rattle.matching.specs.Evaluate.{targetOf, fieldsReady, actual};
 ghost use Rattle.products.specs.Body.{bodyOf, liveProcess, liveTuple};
-ghost use Rattle.products.specs.Products.{isStep, isOut, meetsTuple, makesSecond, hasTarget, hasFields, isFound, targetBy, readiness, variablesAfter, referencesAfter, continuedBy, tupleBy, fieldMade, processBy, secondSlot};
+ghost use Rattle.products.specs.Products.{isStep, isOut, meetsTuple, makesSecond, hasTarget, hasFields, isFound, targetBy, targetThere, readiness, variablesAfter, referencesAfter, continuedBy, tupleBy, fieldMade, processBy, secondSlot};
 use images::Action;
 use images::Datum;
 use images::Field;
@@ -21,6 +21,7 @@ use matching::fields_ready;
 use matching::find_target;
 use matching::with_variable;
 use names::Key;
+use names::Localities;
 use names::Locality;
 use names::Node;
 use names::Reference;
@@ -95,6 +96,19 @@ pub fn target_of(a: Action, vars: [Datum; Variable::COUNT]) -> Locality
         Target::At(l) => l,
         Target::Missing => Locality(0),
     }
+}
+
+// Where the node acts at a target, that locality is present.
+pub fn target_there(kind: u8, present: Localities, l: Locality) -> bool
+    ensures { λ r. ⌜ r ≡ targetThere kind present l ⌝ }
+{
+    if !has_target(kind) {
+        return true;
+    }
+    if !l.is_locality() {
+        return false;
+    }
+    present.has(l)
 }
 
 fn target_found(a: Action, vars: [Datum; Variable::COUNT]) -> bool

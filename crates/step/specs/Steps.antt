@@ -1,11 +1,11 @@
 -- The forward step of the code is the theory's: where it is done, the net that it leaves is what the rule gives.
--- In order: what a done step knows (`Taken`); its slots, by where the key is (`forward-slot`); its localities (`forward-present`); the step
--- (`forward-is`).
+-- In order: the process and its node (`act`); what the checks say of the keys (`held-unmade`, `unmade`); what is made (`at-first`,
+-- `second-product`); its slots, by where the key is (`forward-slot`); its localities (`forward-present`); the step (`forward-is`).
 -- Assumes nothing.
 use Prim.Native.Nat.{ℕ, _<_}
 use mathlib.Core.Path.{_≡_, refl, ap, ap₂, sym, _∙_, subst, fun-ext}
 use mathlib.Core.Logic.{⊎-elim, by-cases}
-use mathlib.Core.Bool.{Bool, true, false, _&&_, _||_, not, true≢false}
+use mathlib.Core.Bool.{Bool, true, false, _&&_, _||_, not, true≢false, or-false}
 use native.Mathlib.Decide.{decLt}
 use native.Mathlib.Omega.{arith}
 use lib.Dec.{eqb, ltb, leb}
@@ -47,7 +47,7 @@ use Rattle.requests.specs.declared.Request as Code
 use Rattle.step.specs.Change.{applied}
 use Rattle.step.specs.Tested.{node-is, no-node}
 use Rattle.step.specs.Forward.{pastSlot, forwardOther, presentAfter, forwardDone}
-use Rattle.step.specs.Written.{isAt, applied-slot, applied-present, joined-view}
+use Rattle.step.specs.Written.{isAt, applied-slot, applied-present, joined-view, eqb-swap}
 use Rattle.step.specs.declared.Change.{Change}
 
 module _ (s : Script) (nodes : length (s .nodes) ≡ nodeCount) (n : Images.Net) (whole : length (n .slots) ≡ keyCount)
@@ -282,16 +282,8 @@ module _ (s : Script) (nodes : length (s .nodes) ≡ nodeCount) (n : Images.Net)
       (λ h.
       let place : isLocality (r .place) ≡ true = and-right (leb 8 (r .place .0)) _ (can .rule .places .place (is-newloc ∙ h)) in
       rw (h, place) (joined-view (n .present) (r .place) place l) ∙
-      ap₂ (λ (b e : Bool). b || e) (sym (view-present s n l)) (swap l (r .place .0)) ∙ sym (rw (is-newloc, h)))
-      (λ h. rw h (sym (view-present s n l) ∙ sym (rw (is-newloc, h) (no-more (W .present l)))))
-    where
-      swap : (i j : ℕ) → eqb i j ≡ eqb j i
-      swap i j =
-          cases (eqb i j) (λ e. e ∙ sym (eq-eqb j i (sym (eqb-true i j e)))) (λ e. e ∙ sym (ne-eqb j i (λ z. eqb-false i j e (sym z))))
-
-      no-more : (b : Bool) → (b || false) ≡ b
-      no-more true = refl
-      no-more false = refl
+      ap₂ (λ (b e : Bool). b || e) (sym (view-present s n l)) (eqb-swap l (r .place .0)) ∙ sym (rw (is-newloc, h)))
+      (λ h. rw h (sym (view-present s n l) ∙ sym (rw (is-newloc, h) (or-false (W .present l)))))
 
   -- ---- the step
 

@@ -1,6 +1,7 @@
 -- The checks that the code makes on slots are the checks of `requests`, of the net that the slots are from.
 -- In order: a node of a script, by its number (`node-is`, `no-node`); check by check, of a forward step (`forward-tests`); the answer of a
--- forward step from the slots (`forward-by`), and what is changed by it (`forward-refused`, `forward-taken`); likewise backward.
+-- forward step from the slots (`forward-answered`), and what is changed by it (`forward-refused`, `forward-taken`); from what the code's calls
+-- answered (`forward-no`, `forward-yes`).
 -- Assumes nothing.
 use Prim.Native.Nat.{ℕ, _<_, _≤_}
 use mathlib.Core.Path.{_≡_, refl, ap, ap₂, sym, _∙_, subst}
@@ -28,7 +29,7 @@ use Rattle.nets.specs.Net as N
 use Rattle.nets.specs.Net.{isLive, isPast, isLiveTuple}
 use Rattle.products.specs.Body.{Body, bodyOf}
 use Rattle.products.specs.Products
-use Rattle.products.specs.Products.{isStep, meetsTuple, makesSecond, hasTarget, targetBy, readyBy, kindOf, fits}
+use Rattle.products.specs.Products.{isStep, meetsTuple, makesSecond, targetBy, targetThere, readyBy, kindOf, fits}
 use Rattle.matching.specs.Match.{meets}
 use Rattle.rules.specs.Instance.{actOf, makeable, rulesOf}
 use Rattle.rules.specs.Acts.{uses-is, acts-is, aims-is, there-is, newloc-is}
@@ -42,7 +43,7 @@ use Rattle.requests.specs.Requests.{asked, isDone, number, answerOf}
 use Rattle.requests.specs.declared.Request.{Request}
 use Rattle.requests.specs.declared.Answer.{Answer}
 use Rattle.step.specs.Change.{refused}
-use Rattle.step.specs.Tests.{placesBy, targetThere, tupleThere, templateMet, secondFresh, placeFresh, namesFresh, forwardTests}
+use Rattle.step.specs.Tests.{placesBy, tupleThere, templateMet, secondFresh, placeFresh, namesFresh, forwardTests}
 use Rattle.step.specs.Forward.{forwardAnswer, forwardDone, forwardChange}
 use Rattle.step.specs.declared.Change.{Change}
 

@@ -11,7 +11,7 @@ use native.Mathlib.Omega.{arith}
 use lib.Dec.{eqb, ltb}
 use Rattle.laws.specs.Choice.{pick, _⇒_}
 use Rattle.laws.specs.Checks.{all}
-use Rattle.names.specs.Names.{keyCount, locality, isKey, isLocality}
+use Rattle.names.specs.Names.{keyCount, locality, isKey}
 use Rattle.names.specs.declared.Key.{Key}
 use Rattle.names.specs.Localities.{holds}
 use Rattle.names.specs.declared.Locality.{Locality}
@@ -24,7 +24,7 @@ use Rattle.images.specs.declared.Script.{Script}
 use Rattle.images.specs.declared.Net.{Net}
 use Rattle.images.specs.declared.Slot.{Slot}
 use Rattle.matching.specs.Match.{meets}
-use Rattle.products.specs.Products.{isStep, isRead, isNewloc, meetsTuple, makesSecond, hasTarget, targetBy, readyBy}
+use Rattle.products.specs.Products.{isStep, isRead, isNewloc, meetsTuple, makesSecond, targetBy, targetThere, readyBy}
 use Rattle.rules.specs.Instance.{makeable}
 use Rattle.requests.specs.Checks as C
 use Rattle.requests.specs.Checks.{check}
@@ -42,10 +42,6 @@ unfoldable pub placesBy : ℕ → Request → Bool
 placesBy kind r =
     asNeeded (meetsTuple kind) (r .used .0) &&
     (asNeeded true (r .first .0) && (asNeeded (makesSecond kind) (r .second .0) && asNeeded (isNewloc kind) (r .place .0)))
-
--- 8: "target locality absent"
-unfoldable pub targetThere : ℕ → Localities → Locality → Bool
-targetThere kind present l = hasTarget kind ⇒ (isLocality l && holds present l)
 
 -- 9: "tuple key not a live tuple at the target"
 unfoldable pub tupleThere : ℕ → Slot → Locality → Bool

@@ -6,7 +6,7 @@
 use Prim.Native.Nat.{ℕ, _<_, _^_}
 use mathlib.Core.Path.{_≡_, refl, ap, ap₂, sym, _∙_, subst}
 use mathlib.Core.Logic.{_⊎_, inl, inr, ⊎-elim, by-cases}
-use mathlib.Core.Bool.{Bool, true, false, _&&_, _||_, not, true≢false}
+use mathlib.Core.Bool.{Bool, true, false, _&&_, _||_, not, true≢false, and-true, and-false}
 use native.Mathlib.Omega.{arith}
 use native.Mathlib.Decide.{decLt}
 use lib.Dec.{eqb, ltb, leb}
@@ -49,7 +49,7 @@ use Rattle.rules.specs.View.{view, slotView, view-with, view-present, free-view
 use Rattle.step.specs.Change.{applied}
 use Rattle.step.specs.Tested.{node-is, no-node}
 use Rattle.step.specs.Backward.{backwardOther, presentBefore, freedAt, backwardDone, undoneAt}
-use Rattle.step.specs.Written.{isAt, applied-slot, applied-present, parted-view}
+use Rattle.step.specs.Written.{isAt, applied-slot, applied-present, parted-view, eqb-swap}
 use Rattle.step.specs.declared.Change.{Change}
 
 module _ (s : Script) (w : ShapedScript s) (in-form : scriptInRange s ≡ true) (n : Images.Net) (whole : length (n .slots) ≡ keyCount)
@@ -164,12 +164,8 @@ module _ (s : Script) (w : ShapedScript s) (in-form : scriptInRange s ≡ true) 
       cases (isKey (x .second)) (λ h. other-second j h ∙ f h)
       (λ h.
       cases (Products.isIn (a .kind))
-      (λ i. other-tuple j h i ∙ ap (λ (b : Bool). isKey (x .used) && b) (g i) ∙ no (isKey (x .used)))
+      (λ i. other-tuple j h i ∙ ap (λ (b : Bool). isKey (x .used) && b) (g i) ∙ and-false (isKey (x .used)))
       (λ i. other-none j h i))
-    where
-      no : (b : Bool) → (b && false) ≡ false
-      no true = refl
-      no false = refl
 
   -- the tuple it used is not one of its keys, nor itself
   used-unmade : (j : ℕ) → makes W e j ≡ true → eqb j (x .used .0) ≡ false
@@ -255,19 +251,11 @@ module _ (s : Script) (w : ShapedScript s) (in-form : scriptInRange s ≡ true) 
       (λ h.
       let place : isLocality (x .place) ≡ true = and-right (leb 8 (x .place .0)) _ (subst (λ (i : ℕ). makeable i ≡ true) place-is (rule-places .place (newloc ∙ h))) in
       rw (h, place) (parted-view (n .present) (x .place) place l) ∙
-      ap₂ (λ (b o : Bool). b && not o) (sym (view-present s n l)) (swap l (x .place .0) ∙ ap (λ (i : ℕ). eqb i l) (sym place-is)) ∙
+      ap₂ (λ (b o : Bool). b && not o) (sym (view-present s n l)) (eqb-swap l (x .place .0) ∙ ap (λ (i : ℕ). eqb i l) (sym place-is)) ∙
       sym (B.present-is (lawfulOf s w in-form) W ok e u l ∙ rw (u .is-past, newloc, h)))
       (λ h.
       rw h
-      (sym (view-present s n l) ∙ sym (B.present-is (lawfulOf s w in-form) W ok e u l ∙ rw (u .is-past, newloc, h) (as-was (W .present l)))))
-    where
-      swap : (i j : ℕ) → eqb i j ≡ eqb j i
-      swap i j =
-          cases (eqb i j) (λ h. h ∙ sym (eq-eqb j i (sym (eqb-true i j h)))) (λ h. h ∙ sym (ne-eqb j i (λ z. eqb-false i j h (sym z))))
-
-      as-was : (b : Bool) → (b && true) ≡ b
-      as-was true = refl
-      as-was false = refl
+      (sym (view-present s n l) ∙ sym (B.present-is (lawfulOf s w in-form) W ok e u l ∙ rw (u .is-past, newloc, h) (and-true (W .present l)))))
 
   pub undo-is : view s (applied n c) ≡ undo W e
   undo-is = λ i. record { present = λ l. undo-present l i; slot = λ j. undo-slot j i }

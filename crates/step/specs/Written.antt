@@ -1,15 +1,16 @@
 -- A change written into a net, seen as a net of the theory.
 -- In order: a slot put at a key (`put-view`, `put-length`); a change (`applied-slot`, `applied-present`); localities with one more
--- (`joined-view`) or one less (`parted-view`).
+-- (`joined-view`) or one less (`parted-view`); equality
+-- asked the other way round (`eqb-swap`).
 -- Assumes nothing.
 use Prim.Native.Nat.{ℕ, _<_}
 use mathlib.Core.Path.{_≡_, refl, ap, ap₂, sym, _∙_, subst}
-use mathlib.Core.Bool.{Bool, true, false, _&&_, _||_, not}
+use mathlib.Core.Bool.{Bool, true, false, _&&_, _||_, not, or-true, or-false}
 use lib.Dec.{eqb, ltb}
 use lib.ListN.{length, getD, set, length-set}
 use lib.Seq.{getD-set-same, getD-set-other}
 use native.Mathlib.Omega.{arith}
-use borrow.Author.Tests.{eqb-true, eqb-false, ltb-true, lt-ltb}
+use borrow.Author.Tests.{eqb-true, eqb-false, eq-eqb, ne-eqb, ltb-true}
 use Rattle.laws.specs.Choice.{pick, cases}
 use Rattle.laws.specs.Sets.{member, including, excluding}
 use Rattle.order.specs.Words.{word-including, word-excluding}
@@ -85,17 +86,14 @@ joined-view w p h l =
     let below : ltb l localityCount ≡ true = ap (λ (j : ℕ). ltb j localityCount) (eqb-true l (p .0) e) ∙ h in
     rw (e, below) (sym (or-true (member (w .0) l))))
     (λ e. rw e (sym (or-false (ltb l localityCount && member (w .0) l))))
-  where
-    or-true : (b : Bool) → (b || true) ≡ true
-    or-true true = refl
-    or-true false = refl
-
-    or-false : (b : Bool) → (b || false) ≡ b
-    or-false true = refl
-    or-false false = refl
 
 pub parted-view : (w : Localities) (p : Locality) → isLocality p ≡ true → (l : ℕ) → (ltb l localityCount && member (parted w p .0) l) ≡ ((ltb l localityCount && member (w .0) l) && not (eqb l (p .0)))
 parted-view w p h l =
     cases (ltb l localityCount)
     (λ t. rw (t, word-excluding localityCount (w .0) (p .0) l (ltb-true (p .0) localityCount h) (ltb-true l localityCount t)))
     (λ t. rw t)
+
+-- equality asked the other way round
+pub eqb-swap : (i j : ℕ) → eqb i j ≡ eqb j i
+eqb-swap i j =
+    cases (eqb i j) (λ e. e ∙ sym (eq-eqb j i (sym (eqb-true i j e)))) (λ e. e ∙ sym (ne-eqb j i (λ z. eqb-false i j e (sym z))))

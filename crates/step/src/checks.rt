@@ -2,10 +2,10 @@
 ghost use mathlib.Core.Path.{_≡_};
 ghost use lib.Dec.{eqb};
 ghost use Rattle.requests.specs.Answers.{asNeeded, noPlaces};
-ghost use Rattle.products.specs.Products.{isStep};
+ghost use Rattle.products.specs.Products.{isStep, targetThere};
 ghost use Rattle.laws.specs.Choice.{_⇒_};
 ghost use Rattle.requests.specs.Requests.{asked, isDone};
-ghost use Rattle.step.specs.Tests.{checked, placesBy, targetThere, tupleThere, templateMet, secondFresh, placeFresh, namesFresh};
+ghost use Rattle.step.specs.Tests.{checked, placesBy, tupleThere, templateMet, secondFresh, placeFresh, namesFresh};
 use super::Check;
 use images::Action;
 use images::Datum;
@@ -17,10 +17,10 @@ use names::Localities;
 use names::Locality;
 use names::NONE;
 use names::Variable;
-use products::has_target;
 use products::is_step;
 use products::makes_second;
 use products::meets_tuple;
+use products::target_there;
 use requests::Answer;
 use requests::Request;
 use requests::number;
@@ -107,16 +107,10 @@ pub fn none_placed(r: Request) -> Check
 
 // ---- 8, 9 and 10: the target, the tuple there, and the match
 
-pub fn target_there(kind: u8, present: Localities, l: Locality) -> Check
+pub fn target_present(kind: u8, present: Localities, l: Locality) -> Check
     ensures { λ r. ⌜ r ≡ checked (targetThere kind present l) ⌝ }
 {
-    if !has_target(kind) {
-        return Check::Holds;
-    }
-    if !l.is_locality() {
-        return Check::Fails;
-    }
-    let b = present.has(l);
+    let b = target_there(kind, present, l);
     told(b)
 }
 

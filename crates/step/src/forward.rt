@@ -13,7 +13,7 @@ use super::checks::all_hold;
 use super::checks::is_live;
 use super::checks::names_fresh;
 use super::checks::places_given;
-use super::checks::target_there;
+use super::checks::target_present;
 use super::checks::template_met;
 use super::checks::tuple_there;
 use super::nowhere;
@@ -61,7 +61,7 @@ fn forward_answer(
         return Answer::Unset;
     };
     let l = target_of(a, vars);
-    let Check::Holds = target_there(a.kind, present, l) else {
+    let Check::Holds = target_present(a.kind, present, l) else {
         return Answer::TargetAbsent;
     };
     let Check::Holds = tuple_there(a.kind, t, l) else {

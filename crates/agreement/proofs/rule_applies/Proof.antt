@@ -2,15 +2,15 @@
 use mathlib.Core.Path.{_∙_, sym, ap}
 use borrow.Author.Tests.{not-true, not-false}
 use Rattle.names.specs.declared.Locality.{Locality}
-use Rattle.agreement.specs.Agreement.{targetThere, ruledBy}
-use Rattle.products.specs.Products.{ready-true, unset-false}
+use Rattle.agreement.specs.Agreement.{ruledBy}
+use Rattle.products.specs.Products.{targetThere, ready-true, unset-false}
 use borrow.Author.Needs.{needs}
 use Rattle.agreement.proofs.rule_applies.Statement.{statement}
 use Rattle.agreement.proofs.rule_applies.Tie as tie
 use Rattle.agreement.proofs.rule_applies.Reads as reads
 use Rattle.agreement.proofs.rule_applies.Lts as lts
 use Rattle.agreement.proofs.places_right.Reads as places-right-reads
-use Rattle.agreement.proofs.target_there.Reads as target-there-reads
+use Rattle.products.proofs.target_there.Reads as target-there-reads
 use Rattle.agreement.proofs.tuple_fits.Reads as tuple-fits-reads
 use Rattle.products.proofs.evaluable.Reads as evaluable-reads
 use Rattle.products.proofs.is_step.Reads as is-step-reads

@@ -14,7 +14,7 @@ use Rattle.step.proofs.checks.acts.Reads as acts-reads
 use Rattle.step.proofs.checks.is_live.Reads as is-live-reads
 use Rattle.step.proofs.checks.names_fresh.Reads as names-fresh-reads
 use Rattle.step.proofs.checks.places_given.Reads as places-given-reads
-use Rattle.step.proofs.checks.target_there.Reads as target-there-reads
+use Rattle.step.proofs.checks.target_present.Reads as target-present-reads
 use Rattle.step.proofs.checks.template_met.Reads as template-met-reads
 use Rattle.step.proofs.checks.tuple_there.Reads as tuple-there-reads
 
@@ -73,8 +73,8 @@ returns-4 c = rw (holds-true _ (sym (c .before .before .before .before .before .
 target-of-requires : tie.Need-target-of-requires
 target-of-requires c κs = search needs
 
-target-there-requires : tie.Need-target-there-requires
-target-there-requires c κs = search needs
+target-present-requires : tie.Need-target-present-requires
+target-present-requires c κs = search needs
 
 enum-told-9 : tie.Need-enum-told-9
 enum-told-9 c = search needs
@@ -84,7 +84,7 @@ enum-told-10 c = search needs
 
 returns-5 : tie.Need-returns-5
 unfolding forwardTests refusal
-returns-5 c = rw (holds-true _ (sym (c .before .before .before .before .before .before .before .before .before .before .before .before .before .before .before .before .is-live .ensures) ∙ c .before .before .before .before .before .before .before .before .before .before .before .before .before .before .enum-told .given .1), holds-true _ (sym (c .before .before .before .before .before .before .before .before .before .before .before .before .before .acts .ensures) ∙ c .before .before .before .before .before .before .before .before .before .before .before .enum-told3 .given .1), holds-true _ (sym (c .before .before .before .before .before .before .before .before .before .before .places-given .ensures) ∙ c .before .before .before .before .before .before .before .before .enum-told5 .given .1), ready-true _ _ (sym (c .before .before .before .before .before .before .evaluable .ensures) ∙ c .before .before .before .before .enum-told7 .given .1), ← c .before .before .before .target-of .ensures, fails-false _ (sym (c .before .before .target-there .ensures) ∙ c .enum-told10 .given .1))
+returns-5 c = rw (holds-true _ (sym (c .before .before .before .before .before .before .before .before .before .before .before .before .before .before .before .before .is-live .ensures) ∙ c .before .before .before .before .before .before .before .before .before .before .before .before .before .before .enum-told .given .1), holds-true _ (sym (c .before .before .before .before .before .before .before .before .before .before .before .before .before .acts .ensures) ∙ c .before .before .before .before .before .before .before .before .before .before .before .enum-told3 .given .1), holds-true _ (sym (c .before .before .before .before .before .before .before .before .before .before .places-given .ensures) ∙ c .before .before .before .before .before .before .before .before .enum-told5 .given .1), ready-true _ _ (sym (c .before .before .before .before .before .before .evaluable .ensures) ∙ c .before .before .before .before .enum-told7 .given .1), ← c .before .before .before .target-of .ensures, fails-false _ (sym (c .before .before .target-present .ensures) ∙ c .enum-told10 .given .1))
 
 tuple-there-requires : tie.Need-tuple-there-requires
 tuple-there-requires c κs = search needs
@@ -97,7 +97,7 @@ enum-told-12 c = search needs
 
 returns-6 : tie.Need-returns-6
 unfolding forwardTests refusal
-returns-6 c = rw (holds-true _ (sym (c .before .before .before .before .before .before .before .before .before .before .before .before .before .before .before .before .before .before .before .is-live .ensures) ∙ c .before .before .before .before .before .before .before .before .before .before .before .before .before .before .before .before .before .enum-told .given .1), holds-true _ (sym (c .before .before .before .before .before .before .before .before .before .before .before .before .before .before .before .before .acts .ensures) ∙ c .before .before .before .before .before .before .before .before .before .before .before .before .before .before .enum-told3 .given .1), holds-true _ (sym (c .before .before .before .before .before .before .before .before .before .before .before .before .before .places-given .ensures) ∙ c .before .before .before .before .before .before .before .before .before .before .before .enum-told5 .given .1), ready-true _ _ (sym (c .before .before .before .before .before .before .before .before .before .evaluable .ensures) ∙ c .before .before .before .before .before .before .before .enum-told7 .given .1), ← c .before .before .before .before .before .before .target-of .ensures, holds-true _ (sym (c .before .before .before .before .before .target-there .ensures) ∙ c .before .before .before .enum-told9 .given .1), fails-false _ (sym (c .before .before .tuple-there .ensures) ∙ c .enum-told12 .given .1))
+returns-6 c = rw (holds-true _ (sym (c .before .before .before .before .before .before .before .before .before .before .before .before .before .before .before .before .before .before .before .is-live .ensures) ∙ c .before .before .before .before .before .before .before .before .before .before .before .before .before .before .before .before .before .enum-told .given .1), holds-true _ (sym (c .before .before .before .before .before .before .before .before .before .before .before .before .before .before .before .before .acts .ensures) ∙ c .before .before .before .before .before .before .before .before .before .before .before .before .before .before .enum-told3 .given .1), holds-true _ (sym (c .before .before .before .before .before .before .before .before .before .before .before .before .before .places-given .ensures) ∙ c .before .before .before .before .before .before .before .before .before .before .before .enum-told5 .given .1), ready-true _ _ (sym (c .before .before .before .before .before .before .before .before .before .evaluable .ensures) ∙ c .before .before .before .before .before .before .before .enum-told7 .given .1), ← c .before .before .before .before .before .before .target-of .ensures, holds-true _ (sym (c .before .before .before .before .before .target-present .ensures) ∙ c .before .before .before .enum-told9 .given .1), fails-false _ (sym (c .before .before .tuple-there .ensures) ∙ c .enum-told12 .given .1))
 
 template-met-requires : tie.Need-template-met-requires
 template-met-requires c κs = search needs
@@ -110,7 +110,7 @@ enum-told-14 c = search needs
 
 returns-7 : tie.Need-returns-7
 unfolding forwardTests refusal
-returns-7 c = rw (holds-true _ (sym (c .before .before .before .before .before .before .before .before .before .before .before .before .before .before .before .before .before .before .before .before .before .before .is-live .ensures) ∙ c .before .before .before .before .before .before .before .before .before .before .before .before .before .before .before .before .before .before .before .before .enum-told .given .1), holds-true _ (sym (c .before .before .before .before .before .before .before .before .before .before .before .before .before .before .before .before .before .before .before .acts .ensures) ∙ c .before .before .before .before .before .before .before .before .before .before .before .before .before .before .before .before .before .enum-told3 .given .1), holds-true _ (sym (c .before .before .before .before .before .before .before .before .before .before .before .before .before .before .before .before .places-given .ensures) ∙ c .before .before .before .before .before .before .before .before .before .before .before .before .before .before .enum-told5 .given .1), ready-true _ _ (sym (c .before .before .before .before .before .before .before .before .before .before .before .before .evaluable .ensures) ∙ c .before .before .before .before .before .before .before .before .before .before .enum-told7 .given .1), ← c .before .before .before .before .before .before .before .before .before .target-of .ensures, holds-true _ (sym (c .before .before .before .before .before .before .before .before .target-there .ensures) ∙ c .before .before .before .before .before .before .enum-told9 .given .1), holds-true _ (sym (c .before .before .before .before .before .tuple-there .ensures) ∙ c .before .before .before .enum-told11 .given .1), fails-false _ (sym (c .before .before .template-met .ensures) ∙ c .enum-told14 .given .1))
+returns-7 c = rw (holds-true _ (sym (c .before .before .before .before .before .before .before .before .before .before .before .before .before .before .before .before .before .before .before .before .before .before .is-live .ensures) ∙ c .before .before .before .before .before .before .before .before .before .before .before .before .before .before .before .before .before .before .before .before .enum-told .given .1), holds-true _ (sym (c .before .before .before .before .before .before .before .before .before .before .before .before .before .before .before .before .before .before .before .acts .ensures) ∙ c .before .before .before .before .before .before .before .before .before .before .before .before .before .before .before .before .before .enum-told3 .given .1), holds-true _ (sym (c .before .before .before .before .before .before .before .before .before .before .before .before .before .before .before .before .places-given .ensures) ∙ c .before .before .before .before .before .before .before .before .before .before .before .before .before .before .enum-told5 .given .1), ready-true _ _ (sym (c .before .before .before .before .before .before .before .before .before .before .before .before .evaluable .ensures) ∙ c .before .before .before .before .before .before .before .before .before .before .enum-told7 .given .1), ← c .before .before .before .before .before .before .before .before .before .target-of .ensures, holds-true _ (sym (c .before .before .before .before .before .before .before .before .target-present .ensures) ∙ c .before .before .before .before .before .before .enum-told9 .given .1), holds-true _ (sym (c .before .before .before .before .before .tuple-there .ensures) ∙ c .before .before .before .enum-told11 .given .1), fails-false _ (sym (c .before .before .template-met .ensures) ∙ c .enum-told14 .given .1))
 
 names-fresh-requires : tie.Need-names-fresh-requires
 names-fresh-requires c κs = search needs
@@ -123,11 +123,11 @@ enum-told-16 c = search needs
 
 returns-8 : tie.Need-returns-8
 unfolding forwardTests refusal
-returns-8 c = rw (holds-true _ (sym (c .before .before .before .before .before .before .before .before .before .before .before .before .before .before .before .before .before .before .before .before .before .before .before .before .before .is-live .ensures) ∙ c .before .before .before .before .before .before .before .before .before .before .before .before .before .before .before .before .before .before .before .before .before .before .before .enum-told .given .1), holds-true _ (sym (c .before .before .before .before .before .before .before .before .before .before .before .before .before .before .before .before .before .before .before .before .before .before .acts .ensures) ∙ c .before .before .before .before .before .before .before .before .before .before .before .before .before .before .before .before .before .before .before .before .enum-told3 .given .1), holds-true _ (sym (c .before .before .before .before .before .before .before .before .before .before .before .before .before .before .before .before .before .before .before .places-given .ensures) ∙ c .before .before .before .before .before .before .before .before .before .before .before .before .before .before .before .before .before .enum-told5 .given .1), ready-true _ _ (sym (c .before .before .before .before .before .before .before .before .before .before .before .before .before .before .before .evaluable .ensures) ∙ c .before .before .before .before .before .before .before .before .before .before .before .before .before .enum-told7 .given .1), ← c .before .before .before .before .before .before .before .before .before .before .before .before .target-of .ensures, holds-true _ (sym (c .before .before .before .before .before .before .before .before .before .before .before .target-there .ensures) ∙ c .before .before .before .before .before .before .before .before .before .enum-told9 .given .1), holds-true _ (sym (c .before .before .before .before .before .before .before .before .tuple-there .ensures) ∙ c .before .before .before .before .before .before .enum-told11 .given .1), holds-true _ (sym (c .before .before .before .before .before .template-met .ensures) ∙ c .before .before .before .enum-told13 .given .1), fails-false _ (sym (c .before .before .names-fresh .ensures) ∙ c .enum-told16 .given .1))
+returns-8 c = rw (holds-true _ (sym (c .before .before .before .before .before .before .before .before .before .before .before .before .before .before .before .before .before .before .before .before .before .before .before .before .before .is-live .ensures) ∙ c .before .before .before .before .before .before .before .before .before .before .before .before .before .before .before .before .before .before .before .before .before .before .before .enum-told .given .1), holds-true _ (sym (c .before .before .before .before .before .before .before .before .before .before .before .before .before .before .before .before .before .before .before .before .before .before .acts .ensures) ∙ c .before .before .before .before .before .before .before .before .before .before .before .before .before .before .before .before .before .before .before .before .enum-told3 .given .1), holds-true _ (sym (c .before .before .before .before .before .before .before .before .before .before .before .before .before .before .before .before .before .before .before .places-given .ensures) ∙ c .before .before .before .before .before .before .before .before .before .before .before .before .before .before .before .before .before .enum-told5 .given .1), ready-true _ _ (sym (c .before .before .before .before .before .before .before .before .before .before .before .before .before .before .before .evaluable .ensures) ∙ c .before .before .before .before .before .before .before .before .before .before .before .before .before .enum-told7 .given .1), ← c .before .before .before .before .before .before .before .before .before .before .before .before .target-of .ensures, holds-true _ (sym (c .before .before .before .before .before .before .before .before .before .before .before .target-present .ensures) ∙ c .before .before .before .before .before .before .before .before .before .enum-told9 .given .1), holds-true _ (sym (c .before .before .before .before .before .before .before .before .tuple-there .ensures) ∙ c .before .before .before .before .before .before .enum-told11 .given .1), holds-true _ (sym (c .before .before .before .before .before .template-met .ensures) ∙ c .before .before .before .enum-told13 .given .1), fails-false _ (sym (c .before .before .names-fresh .ensures) ∙ c .enum-told16 .given .1))
 
 returns-9 : tie.Need-returns-9
 unfolding forwardTests refusal
-returns-9 c = rw (holds-true _ (sym (c .before .before .before .before .before .before .before .before .before .before .before .before .before .before .before .before .before .before .before .before .before .before .before .before .before .is-live .ensures) ∙ c .before .before .before .before .before .before .before .before .before .before .before .before .before .before .before .before .before .before .before .before .before .before .before .enum-told .given .1), holds-true _ (sym (c .before .before .before .before .before .before .before .before .before .before .before .before .before .before .before .before .before .before .before .before .before .before .acts .ensures) ∙ c .before .before .before .before .before .before .before .before .before .before .before .before .before .before .before .before .before .before .before .before .enum-told3 .given .1), holds-true _ (sym (c .before .before .before .before .before .before .before .before .before .before .before .before .before .before .before .before .before .before .before .places-given .ensures) ∙ c .before .before .before .before .before .before .before .before .before .before .before .before .before .before .before .before .before .enum-told5 .given .1), ready-true _ _ (sym (c .before .before .before .before .before .before .before .before .before .before .before .before .before .before .before .evaluable .ensures) ∙ c .before .before .before .before .before .before .before .before .before .before .before .before .before .enum-told7 .given .1), ← c .before .before .before .before .before .before .before .before .before .before .before .before .target-of .ensures, holds-true _ (sym (c .before .before .before .before .before .before .before .before .before .before .before .target-there .ensures) ∙ c .before .before .before .before .before .before .before .before .before .enum-told9 .given .1), holds-true _ (sym (c .before .before .before .before .before .before .before .before .tuple-there .ensures) ∙ c .before .before .before .before .before .before .enum-told11 .given .1), holds-true _ (sym (c .before .before .before .before .before .template-met .ensures) ∙ c .before .before .before .enum-told13 .given .1), holds-true _ (sym (c .before .before .names-fresh .ensures) ∙ c .enum-told15 .given .1))
+returns-9 c = rw (holds-true _ (sym (c .before .before .before .before .before .before .before .before .before .before .before .before .before .before .before .before .before .before .before .before .before .before .before .before .before .is-live .ensures) ∙ c .before .before .before .before .before .before .before .before .before .before .before .before .before .before .before .before .before .before .before .before .before .before .before .enum-told .given .1), holds-true _ (sym (c .before .before .before .before .before .before .before .before .before .before .before .before .before .before .before .before .before .before .before .before .before .before .acts .ensures) ∙ c .before .before .before .before .before .before .before .before .before .before .before .before .before .before .before .before .before .before .before .before .enum-told3 .given .1), holds-true _ (sym (c .before .before .before .before .before .before .before .before .before .before .before .before .before .before .before .before .before .before .before .places-given .ensures) ∙ c .before .before .before .before .before .before .before .before .before .before .before .before .before .before .before .before .before .enum-told5 .given .1), ready-true _ _ (sym (c .before .before .before .before .before .before .before .before .before .before .before .before .before .before .before .evaluable .ensures) ∙ c .before .before .before .before .before .before .before .before .before .before .before .before .before .enum-told7 .given .1), ← c .before .before .before .before .before .before .before .before .before .before .before .before .target-of .ensures, holds-true _ (sym (c .before .before .before .before .before .before .before .before .before .before .before .target-present .ensures) ∙ c .before .before .before .before .before .before .before .before .before .enum-told9 .given .1), holds-true _ (sym (c .before .before .before .before .before .before .before .before .tuple-there .ensures) ∙ c .before .before .before .before .before .before .enum-told11 .given .1), holds-true _ (sym (c .before .before .before .before .before .template-met .ensures) ∙ c .before .before .before .enum-told13 .given .1), holds-true _ (sym (c .before .before .names-fresh .ensures) ∙ c .enum-told15 .given .1))
 
 pub forward-answer-spec : {M : Type 1} → statement M
 forward-answer-spec =
@@ -150,7 +150,7 @@ forward-answer-spec =
     enum-told-8
     returns-4
     target-of-requires
-    target-there-requires
+    target-present-requires
     enum-told-9
     enum-told-10
     returns-5

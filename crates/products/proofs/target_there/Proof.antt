@@ -1,15 +1,15 @@
 -- `target_there` meets its contract. Assumes nothing.
 use mathlib.Core.Path.{_∙_, sym}
 use borrow.Author.Tests.{ltb-true, not-true, not-false}
-use Rattle.agreement.specs.Agreement.{targetThere}
+use Rattle.products.specs.Products.{targetThere}
 use borrow.Author.Needs.{needs}
-use Rattle.agreement.proofs.target_there.Statement.{statement}
-use Rattle.agreement.proofs.target_there.Tie as tie
-use Rattle.agreement.proofs.target_there.Reads as reads
-use Rattle.agreement.proofs.target_there.Lts as lts
+use Rattle.products.proofs.target_there.Statement.{statement}
+use Rattle.products.proofs.target_there.Tie as tie
+use Rattle.products.proofs.target_there.Reads as reads
+use Rattle.products.proofs.target_there.Lts as lts
 use Rattle.names.proofs.Localities.has.Reads as has-reads
 use Rattle.names.proofs.Locality.is_locality.Reads as is-locality-reads
 use Rattle.products.proofs.has_target.Reads as has-target-reads
 
 has-target-requires : tie.Need-has-target-requires
 has-target-requires c κs = search needs
