@@ -140,6 +140,11 @@ impl Clause {
         }
     }
 
+    /// Does a net of the right form break this clause?
+    pub fn is_broken(self, script: &Script, net: &Net) -> bool {
+        self.broken(script, net).is_some()
+    }
+
     fn broken(self, script: &Script, net: &Net) -> Option<BrokenClause> {
         if seeded(Fault::ClauseLeftOut(self)) {
             return None;

@@ -53,7 +53,7 @@ type Shape = Vec<Datum>;
 
 /// Scripts with a purpose: localities made, lived at and named; tuples read
 /// before they are taken; document 01's T.
-const PURPOSES: [&str; 4] = [
+pub const PURPOSES: [&str; 4] = [
     "script
     node 0 newloc(x0) as r0 then 1
     node 1 eval(4)@x0 then 2
@@ -94,7 +94,7 @@ pub fn script(random: &mut Random) -> Script {
     script_without_purpose(random)
 }
 
-fn script_without_purpose(random: &mut Random) -> Script {
+pub fn script_without_purpose(random: &mut Random) -> Script {
     let used = random.pick(&[1, 3, 6, 12, 64]).unwrap_or(6);
     let kinds = FLAVOURS[random.below(FLAVOURS.len() as u64) as usize];
     let shapes: Vec<Shape> = (0..2).map(|_| shape(random)).collect();
@@ -278,6 +278,44 @@ pub fn start(random: &mut Random, script: &Script) -> Net {
     }
     for _ in 0..random.below(keys) {
         let present = net.present;
+        put(random, &mut net, |random, at| {
+            Slot::Tuple(tuple(random, script, present, at))
+        });
+    }
+    net
+}
+
+/// An accepted net with no past process, so many records, and these of the
+/// localities 0..7. The processes are at any nodes.
+pub fn crowd(
+    random: &mut Random,
+    script: &Script,
+    present: u8,
+    processes: usize,
+    tuples: usize,
+) -> Net {
+    let nodes: Vec<NodeName> = (0..processes).map(|_| some_node(random, script)).collect();
+    crowd_at(random, script, present, &nodes, tuples)
+}
+
+/// The same with a process at each of these nodes.
+pub fn crowd_at(
+    random: &mut Random,
+    script: &Script,
+    present: u8,
+    nodes: &[NodeName],
+    tuples: usize,
+) -> Net {
+    let mut net = Net::empty();
+    net.present.0 = present.into();
+    for &node in nodes {
+        put(random, &mut net, |random, at| {
+            let process = process(random, script, at);
+            Slot::Live(Process { node, ..process })
+        });
+    }
+    let present = net.present;
+    for _ in 0..tuples {
         put(random, &mut net, |random, at| {
             Slot::Tuple(tuple(random, script, present, at))
         });

@@ -100,7 +100,7 @@ fn change_length(random: &mut Random, bytes: &mut Vec<u8>, length: usize) {
 }
 
 /// Bytes at the edges of some range.
-fn interesting(random: &mut Random) -> u8 {
+pub fn interesting(random: &mut Random) -> u8 {
     const EDGES: [u8; 21] = [
         0, 1, 2, 3, 4, 5, 6, 7, 8, 9, 16, 31, 32, 33, 62, 63, 64, 65, 128, 254, 255,
     ];
@@ -141,18 +141,22 @@ pub fn rename(random: &mut Random, net: &Net) -> Net {
     for i in (1..names.len()).rev() {
         names.swap(i, random.below(i as u64 + 1) as usize);
     }
-    let other = |key: Key| names[key.index()];
+    renamed_by(net, |key| names[key.index()])
+}
+
+/// The net with each key named as `other` has it.
+pub fn renamed_by(net: &Net, other: impl Fn(Key) -> Key) -> Net {
     let mut renamed = Net::empty();
     renamed.present = net.present;
     for (key, slot) in net.records() {
         let mut slot = slot.clone();
         if let Slot::Live(process) | Slot::Past(process, _) = &mut slot {
-            process.references = process.references.map(|held| held.map(other));
+            process.references = process.references.map(|held| held.map(&other));
         }
         if let Slot::Past(_, memory) = &mut slot {
-            memory.first = memory.first.map(other);
-            memory.second = memory.second.map(other);
-            memory.used = memory.used.map(other);
+            memory.first = memory.first.map(&other);
+            memory.second = memory.second.map(&other);
+            memory.used = memory.used.map(&other);
         }
         renamed.set(other(key), slot);
     }

@@ -11,6 +11,8 @@ use crate::program::rewind;
 use crate::random::Random;
 use crate::recipes::RECIPES;
 use crate::script_form::ScriptRule;
+use crate::trial_stream::trials;
+use crate::trials::{said, Said};
 use std::panic::{catch_unwind, UnwindSafe};
 
 const SEED: u64 = 2;
@@ -94,14 +96,38 @@ fn without_a_seeded_error_cases_and_streams_hold() {
     }
 }
 
-#[test]
-fn every_seeded_error_is_noticed() {
+fn all_faults() -> Vec<Fault> {
     let mut faults = READINGS.to_vec();
     faults.extend(ScriptRule::ALL.map(Fault::ScriptRuleLeftOut));
     faults.extend(NetRule::ALL.map(Fault::NetRuleLeftOut));
     faults.extend(Clause::ALL.map(Fault::ClauseLeftOut));
+    faults
+}
+
+#[test]
+fn every_seeded_error_is_noticed() {
     let streams = streams();
-    check(&faults, &streams);
+    check(&all_faults(), &streams);
+}
+
+/// In a trial stream every image has its length and nothing is rolled back.
+const NOT_IN_TRIALS: [Fault; 3] = [
+    Fault::TouchedForgetsAbsent,
+    Fault::ScriptRuleLeftOut(ScriptRule::Length),
+    Fault::NetRuleLeftOut(NetRule::Length),
+];
+
+#[test]
+fn every_seeded_error_is_noticed_by_the_trials_alone() {
+    let stream = trials(1).bytes;
+    let expected: Vec<Said> = said(&stream).collect();
+    for fault in all_faults() {
+        if NOT_IN_TRIALS.contains(&fault) {
+            continue;
+        }
+        let same = || catch_unwind(|| said(&stream).eq(expected.iter().copied()));
+        assert!(!with(fault, same).unwrap_or(false), "{fault:?}");
+    }
 }
 
 /// Do the claims notice it? A panic counts.

@@ -6,7 +6,8 @@
 //! their form); `rule` (the forward rules); `dependence`; `accept` (the
 //! clauses of acceptance); `step`, `rollback`, `machine` (steps, rollback,
 //! checks, finder, helpers); `program` (`rewind`). Beside them: `text_read` and `text_write` (the
-//! language of `make` and `show`), `dot`, `gen`, `claims`, `against` and `form_cases`.
+//! language of `make` and `show`), `dot`, `gen`, `claims`, `against`, `form_cases` and `trials`
+//! with `trial_stream` above `trial_nets`, `trial_changes` and `trial_requests`.
 #![forbid(unsafe_code)]
 
 pub mod accept;
@@ -15,6 +16,7 @@ pub mod answer;
 pub mod arbitrary;
 pub mod cases;
 pub mod claims;
+pub mod crc32;
 pub mod damage;
 pub mod dependence;
 pub mod dot;
@@ -39,4 +41,11 @@ pub mod step;
 pub mod tally;
 pub mod text_read;
 pub mod text_write;
+pub mod trial_changes;
+mod trial_edits;
+pub mod trial_nets;
+pub mod trial_requests;
+mod trial_site;
+pub mod trial_stream;
+pub mod trials;
 pub mod walk;

@@ -15,6 +15,8 @@ use reference::random::Random;
 use reference::script::Script;
 use reference::text_read::make;
 use reference::text_write::{net_form_verdict, script_form_verdict, show};
+use reference::trial_stream::trials;
+use reference::trials::answer_trials;
 use std::io::{self, Read, Write};
 use std::process::ExitCode;
 
@@ -28,6 +30,8 @@ const USAGE: &str = "usage:
   reference check-claims SEED COUNT [--out DIR]       tries to refute document 01 on COUNT nets
   reference check-form script|net FILE                the form alone
   reference form-cases --input FILE --output FILE     cases of the form, and what each is
+  reference trials SEED                               a stream of trials
+  reference answer-trials                             a stream of trials in; a line for each question
   reference find [KEY]                                script and net in; key, answer, tuple key out
   reference free-key | free-locality                  script and net in; answer and name out
 An image that is not named is read from standard input.
@@ -68,6 +72,8 @@ fn run(words: &[&str]) -> Output {
         "check-claims" => run_check_claims(options),
         "check-form" => run_check_form(options),
         "form-cases" => run_form_cases(options),
+        "trials" => run_trials(options),
+        "answer-trials" => Ok(answer_trials(&read_input(None)?).into_bytes()),
         "find" => run_find(options),
         "free-key" => run_helper(options, least_free_key),
         "free-locality" => run_helper(options, least_absent_locality),
@@ -244,6 +250,14 @@ fn run_form_cases(options: Options) -> Output {
     write_file(".", input, &cases.input())?;
     write_file(".", output, cases.output().as_bytes())?;
     Ok(cases.text().into_bytes())
+}
+
+/// The trial stream of a seed, as bytes.
+fn run_trials(mut options: Options) -> Output {
+    match options.next().map(str::parse) {
+        Some(Ok(seed)) => Ok(trials(seed).bytes),
+        _ => Err(USAGE.to_string()),
+    }
 }
 
 /// The finder for one key, or for every byte.

@@ -93,7 +93,7 @@ impl Walk<'_> {
     }
 
     /// A live process that can go on, where there is one; sometimes any.
-    fn sensible_forward(&self, random: &mut Random) -> Request {
+    pub fn sensible_forward(&self, random: &mut Random) -> Request {
         let live = self.keys(|slot| matches!(slot, Slot::Live(_)));
         let requests: Vec<Request> = live
             .iter()
@@ -113,7 +113,9 @@ impl Walk<'_> {
         random.pick(&may_go).unwrap_or(any)
     }
 
-    fn forward_of(&self, key: Key, random: &mut Random) -> Option<Request> {
+    /// A forward request of this process, live or past, with the places that
+    /// its kind needs.
+    pub fn forward_of(&self, key: Key, random: &mut Random) -> Option<Request> {
         let process = self.net.slot(key).process()?;
         let node = self.script.node(process.node);
         Some(Request {

@@ -83,8 +83,25 @@ fn gen_and_check_claims_print_their_counts() {
 }
 
 #[test]
+fn answer_trials_prints_a_line_for_each_question() {
+    let (script, net) = (image(T), image(A));
+    let letters = [&b"S"[..], &script, b"N", &net, b"VP", &[0, 0, 0], b"VB"].concat();
+    let request = [&letters[..], b"R", &[0, 0, 255, 64, 3, 255], b"R"].concat();
+    let expected = "V 0\nV 2\nR 3 0 00000000 d8189ac5\n";
+    assert_eq!(prints(&["answer-trials"], &request), expected);
+    assert_eq!(prints(&["answer-trials"], &[]), "");
+}
+
+#[test]
 fn a_wrong_command_line_is_a_failure() {
-    for arguments in [&["what"][..], &[], &["gen", "1"], &["rewind", "--order"]] {
+    for arguments in [
+        &["what"][..],
+        &[],
+        &["gen", "1"],
+        &["rewind", "--order"],
+        &["trials"],
+        &["trials", "one"],
+    ] {
         assert!(!run(arguments, &[]).status.success());
     }
 }
