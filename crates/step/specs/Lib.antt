@@ -1,11 +1,13 @@
--- Steps in code: what a step answers and changes (`Change`, `Forward`, `Backward`), and that this is the theory's step (`Steps`).
+-- Steps in code: what a step answers and changes (`Change`, `Forward`, `Backward`), and what that promises, in the words of the theory (`Laws`).
+-- How the code finds out is in `Tests`, and that these are the checks of `requests` in `Tested` and `TestedBackward`; that the changes, written
+-- (`Written`), are the theory's steps, in `Steps` and `Undone`.
 pub mod Change
-pub mod Tests
 pub mod Forward
-pub mod Tested
 pub mod Backward
+pub mod Laws
+pub mod Tests
+pub mod Tested
 pub mod TestedBackward
 pub mod Written
 pub mod Steps
 pub mod Undone
-pub mod Laws
