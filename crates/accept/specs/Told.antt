@@ -179,7 +179,7 @@ module _ (s : Script) (n : Images.Net) where
   abbrev takenGone : ℕ → Bool
   takenGone f = takes seen f (seen .slot f .used) ⇒ not (isLiveTuple (seen .slot (seen .slot f .used) .kind))
 
-  tuple-told : (k : ℕ) → k < keyCount → W.tupleRight (deedAt deeds k) n (key k) (slotAt n k) (tuplesTaken deeds n .keys) ≡ (consumedTaken k && takenGone k)
+  tuple-told : (k : ℕ) → k < keyCount → W.tupleRight (deedAt deeds k) (key k) (slotAt n k) (slotWith n (slotAt n k .used)) (tuplesTaken deeds n .keys) ≡ (consumedTaken k && takenGone k)
   unfolding W.tupleRight
   tuple-told k l =
       either-both (eqb (slotAt n k .kind) 4) (isIn (tuplesTaken deeds n .keys) (key k)) (eqb (deedAt deeds k) 2) (not (eqb (slotWith n (slotAt n k .used) .kind) 3)) (consumed-idle k l) ∙

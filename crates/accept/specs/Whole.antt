@@ -22,12 +22,11 @@ use Rattle.rules.specs.Roots.{rooted}
 use Rattle.traces.specs.Traces.{deedAt}
 
 -- a consumed tuple was taken; what an in took is no live tuple
-unfoldable pub tupleRight : ℕ → Net → Key → Slot → Keys → Bool
-tupleRight deed n k x taken =
-    pick (eqb (x .kind) 4) (isIn taken k) (eqb deed 2 ⇒ not (eqb (slotWith n (x .used) .kind) 3))
+unfoldable pub tupleRight : ℕ → Key → Slot → Slot → Keys → Bool
+tupleRight deed k x t taken = pick (eqb (x .kind) 4) (isIn taken k) (eqb deed 2 ⇒ not (eqb (t .kind) 3))
 
 unfoldable pub tuplesRight : List ℕ → Net → Keys → Bool
-tuplesRight ds n taken = all keyCount (λ k. tupleRight (deedAt ds k) n (key k) (slotAt n k) taken)
+tuplesRight ds n taken = all keyCount (λ k. tupleRight (deedAt ds k) (key k) (slotAt n k) (slotWith n (slotAt n k .used)) taken)
 
 unfoldable pub localityRight : Localities → Localities → Locality → Bool
 localityRight present made l = sameb (holds present l) (holds made l)

@@ -5,18 +5,19 @@ ghost use Rattle.accept.specs.Whole.{tupleRight, tuplesRight, localityRi
 use images::Action;
 use images::Net;
 use images::Slot;
+use images::net_image::index_of;
 use images::net_image::is_free;
-use images::net_image::slot_with;
+use images::net_image::slot_or_free;
 use names::Key;
 use names::Keys;
 use names::Localities;
 use names::Locality;
 use rules::is_rooted;
 
-// A consumed tuple was taken; what an in took is no live tuple.
-fn tuple_right(deed: u8, n: Net, k: Key, x: Slot, taken: Keys) -> bool
+// A consumed tuple was taken; what an in took is no live tuple: t stands at the key that x used.
+fn tuple_right(deed: u8, k: Key, x: Slot, t: Slot, taken: Keys) -> bool
     requires { ⌜ k .0 < 64 ⌝ }
-    ensures { λ r. ⌜ r ≡ tupleRight deed n k x taken ⌝ }
+    ensures { λ r. ⌜ r ≡ tupleRight deed k x t taken ⌝ }
 {
     if x.kind == Slot::CONSUMED {
         return taken.has(k);
@@ -24,8 +25,6 @@ fn tuple_right(deed: u8, n: Net, k: Key, x: Slot, taken: Keys) -> bool
     if deed != Action::IN {
         return true;
     }
-    let used = x.used;
-    let t = slot_with(n, used);
     t.kind != Slot::TUPLE
 }
 
@@ -36,7 +35,11 @@ pub fn tuples_right(deeds: [u8; Key::COUNT], n: Net, taken: Keys) -> bool
     while k < 64 {
         let i = k as usize;
         let x = n.slots[i];
-        if !tuple_right(deeds[i], n, Key(k), x, taken) {
+        let used = x.used;
+        let u = index_of(used);
+        let at_used = n.slots[u];
+        let t = slot_or_free(used, at_used);
+        if !tuple_right(deeds[i], Key(k), x, t, taken) {
             return false;
         }
         k += 1;

@@ -1,7 +1,7 @@
 -- An event, its rule and what it made, as the code tests them on slots. Nothing here must be believed: `Agreed` proves these tests to be the
 -- theory's (`nets`, `Accepting`).
 -- In order: the places of an event (`placedBy`); its rule (`tupleFits`, `ruledBy`); what it made (`standsAs`, `productsStand`);
--- a slot that agrees if it holds an event (`slotAgrees`).
+-- a slot that agrees if it holds an event, from what stands beside it (`agreesBy`) and in a net (`slotAgrees`).
 -- Assumes nothing.
 use Prim.Native.Nat.{ℕ}
 use mathlib.Core.Bool.{Bool, _&&_, _||_, not}
@@ -86,6 +86,10 @@ productsStand a k x t first second =
     standsAs first (liveProcess (continuedBy a k (bodyOf x) (t .contents) (x .place))) 2 && secondStands a x second
 
 -- ---- the events of a net
+
+-- the slot x with the key k, if it holds an event, at the node a; the others stand at the keys that it used and made
+unfoldable pub agreesBy : Action → Localities → Key → Slot → Slot → Slot → Slot → Bool
+agreesBy a present k x t first second = eqb (x .kind) 2 ⇒ (ruledBy a present x t && productsStand a k x t first second)
 
 unfoldable pub agreesAt : Script → Net → Key → Slot → Bool
 agreesAt s n k x =

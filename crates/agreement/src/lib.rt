@@ -1,16 +1,18 @@
 // An event and its rule: the rule applies, and what the event made is what the rule makes, but for what happened to it since.
 ghost use mathlib.Core.Path.{_≡_};
-ghost use Prim.Native.Nat.{_<_};
 ghost use Rattle.laws.specs.Checks.{all};
 ghost use Rattle.names.specs.Names.{keyCount};
-ghost use Rattle.agreement.specs.Agreement.{keyNeeded, placeNeeded, placedBy, isTuple, tupleFits, ruledBy, sameData, sameRefs, sameRecord, standsAs, secondStands, productsStand, agreesAt, slotAgrees};
+ghost use Rattle.agreement.specs.Agreement.{keyNeeded, placeNeeded, placedBy, isTuple, tupleFits, ruledBy, sameData, sameRefs, sameRecord, standsAs, secondStands, productsStand, agreesBy, slotAgrees};
 use images::Action;
 use images::Datum;
 use images::Net;
 use images::Script;
 use images::Slot;
+use images::net_image::index_of;
 use images::net_image::made_are;
-use images::net_image::slot_with;
+use images::net_image::slot_or_free;
+use images::script_image::node_index;
+use images::script_image::node_or_nil;
 use matching::Match;
 use matching::match_tuple;
 use names::Key;
@@ -227,46 +229,52 @@ fn products_stand(a: Action, k: Key, x: Slot, t: Slot, first: Slot, second: Slot
 
 // ---- the events of a net
 
-fn event_agrees(s: Script, n: Net, k: Key, x: Slot) -> bool
-    ensures { λ r. ⌜ r ≡ agreesAt s n k x ⌝ }
+// The slot x with this key agrees where it holds an event. Beside it stand its node, and what is at the keys that it used and made.
+fn slot_agrees(
+    a: Action,
+    present: Localities,
+    k: Key,
+    x: Slot,
+    t: Slot,
+    first: Slot,
+    second: Slot,
+) -> bool
+    ensures { λ r. ⌜ r ≡ agreesBy a present k x t first second ⌝ }
 {
-    let node = x.node;
-    if !node.is_node() {
-        return false;
-    }
-    let i = node.0 as usize;
-    let a = s.nodes[i];
-    let used = x.used;
-    let t = slot_with(n, used);
-    let present = n.present;
-    if !rule_applies(a, present, x, t) {
-        return false;
-    }
-    let one = x.first;
-    let first = slot_with(n, one);
-    let two = x.second;
-    let second = slot_with(n, two);
-    products_stand(a, k, x, t, first, second)
-}
-
-fn slot_agrees(s: Script, n: Net, k: u8) -> bool
-    requires { ⌜ k < 64 ⌝ }
-    ensures { λ r. ⌜ r ≡ slotAgrees s n k ⌝ }
-{
-    let x = n.slots[k as usize];
     if x.kind != Slot::PAST {
         return true;
     }
-    event_agrees(s, n, Key(k), x)
+    if !rule_applies(a, present, x, t) {
+        return false;
+    }
+    products_stand(a, k, x, t, first, second)
 }
 
 // Each past record and what it made agree with its rule.
 pub fn events_agree(s: Script, n: Net) -> bool
     ensures { λ r. ⌜ r ≡ all keyCount (slotAgrees s n) ⌝ }
 {
+    let present = n.present;
     let mut k: u8 = 0;
     while k < 64 {
-        if !slot_agrees(s, n, k) {
+        let x = n.slots[k as usize];
+        let node = x.node;
+        let p = node_index(node);
+        let action = s.nodes[p];
+        let a = node_or_nil(node, action);
+        let used = x.used;
+        let u = index_of(used);
+        let at_used = n.slots[u];
+        let t = slot_or_free(used, at_used);
+        let one = x.first;
+        let f = index_of(one);
+        let at_first = n.slots[f];
+        let first = slot_or_free(one, at_first);
+        let two = x.second;
+        let g = index_of(two);
+        let at_second = n.slots[g];
+        let second = slot_or_free(two, at_second);
+        if !slot_agrees(a, present, Key(k), x, t, first, second) {
             return false;
         }
         k += 1;

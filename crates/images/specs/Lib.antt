@@ -4,6 +4,7 @@ pub mod Head
 pub mod Script
 pub mod Net
 pub mod Read
+pub mod Lookup
 pub mod Layout
 pub mod Shape
 pub mod Round

@@ -42,6 +42,13 @@ abbrev pub freeSlot : Slot
 freeSlot =
     record { kind = 0; locality = locality 0; node = node 0; count = 0; first = key 0; second = key 0; used = key 0; place = locality 0; contents = replicate 8 datum0; refs = replicate 4 (key 0) }
 
+-- where the slot with this key stands, and what was found there; where there is no such key, nothing is held
+abbrev pub indexOf : Key → ℕ
+indexOf k = pick (ltb (k .0) keyCount) (k .0) 0
+
+abbrev pub slotOr : Key → Slot → Slot
+slotOr k x = pick (ltb (k .0) keyCount) x freeSlot
+
 -- the slot with this key; where there is no such key, nothing is held
 abbrev pub slotWith : Net → Key → Slot
 slotWith n k = pick (ltb (k .0) keyCount) (slotAt n (k .0)) freeSlot

@@ -10,7 +10,7 @@ ghost use Rattle.laws.specs.Parts.{flat};
 ghost use Rattle.laws.specs.Words.{word};
 ghost use Rattle.names.specs.Names.{key, node};
 ghost use Rattle.images.specs.Head.{byte, partAt, restZero, pairBytes};
-ghost use Rattle.images.specs.Net.{datum0, isTuple, nodeOrCount, firstBytes, slotBytes, netBytes, netWritten, writtenInto, isUnset, isSet, isDatum, variablesInRange, fieldOrBlank, dataFill, madeAre, refsAre, madeInRange, refsInRange, freeInRange, processInRange, tupleInRange, slotInRange, freeSlot, slotWith, isFree};
+ghost use Rattle.images.specs.Net.{datum0, isTuple, nodeOrCount, firstBytes, slotBytes, netBytes, netWritten, writtenInto, isUnset, isSet, isDatum, variablesInRange, fieldOrBlank, dataFill, madeAre, refsAre, madeInRange, refsInRange, freeInRange, processInRange, tupleInRange, slotInRange, freeSlot, indexOf, slotOr, slotWith, isFree};
 ghost use Rattle.images.specs.Read.{datumOf, slotOf, slotsFormed, netOf, goodNet, badNet, readNet};
 use super::Datum;
 use super::Form;
@@ -371,6 +371,27 @@ pub fn free_slot() -> Slot
         }; Variable::COUNT],
         refs: [Key(0); Reference::COUNT],
     }
+}
+
+// Where the slot with this key stands among the slots; some place where there is no such key. Whoever holds a net looks up by this and
+// `slot_or_free`, since a net that is passed on is copied.
+pub fn index_of(k: Key) -> usize
+    ensures { λ r. ⌜ r ≡ indexOf k ⌝ }
+{
+    if k.is_key() {
+        return k.0 as usize;
+    }
+    0
+}
+
+// The slot that was found for this key; where there is no such key, nothing is held.
+pub fn slot_or_free(k: Key, x: Slot) -> Slot
+    ensures { λ r. ⌜ r ≡ slotOr k x ⌝ }
+{
+    if k.is_key() {
+        return x;
+    }
+    free_slot()
 }
 
 // The slot with this key; where there is no such key, nothing is held.

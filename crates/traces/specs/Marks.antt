@@ -25,18 +25,19 @@ use Rattle.laws.specs.Sets.{member, including, member-including-other, member-e
 use Rattle.order.specs.KeySets.{Set, only, _∪_, _∩_, any, any-not}
 use Rattle.order.specs.Distinct.{gathered, gathered-next, distinct, distinct-next, row-none, row-one, row-two}
 use Rattle.order.specs.Words.{wordOf, wordOf-in, wordOf-is, wordOf-next, wordOf-ext, wordOf-more}
-use Rattle.names.specs.Names.{keyCount, localityCount, nodeCount, key}
-use Rattle.names.specs.KeySets.{keys}
+use Rattle.names.specs.Names.{keyCount, localityCount, nodeCount, key, isKey}
+use Rattle.names.specs.KeySets.{keys, either}
 use Rattle.names.specs.Localities.{localities}
 use Rattle.names.specs.declared.Key.{Key}
 use Rattle.names.specs.declared.Keys.{Keys}
 use Rattle.names.specs.declared.Locality.{Locality}
 use Rattle.images.specs.Script.{action0, actionAt}
-use Rattle.images.specs.Net.{slotAt}
+use Rattle.images.specs.Net.{slotAt, indexOf}
 use Rattle.images.specs.declared.Action.{Action}
 use Rattle.images.specs.declared.Script.{Script}
+use Rattle.images.specs.declared.Slot.{Slot}
 use Rattle.images.specs.declared.Net.{Net}
-use Rattle.traces.specs.Traces.{deedAt, isEvent, madeAt, usedAt, placeAt, markedKey, markedKeys, markedPlace, keyMarks, placeMarks, withUser, usersBelow, usersOf, rowOf, rowsOf}
+use Rattle.traces.specs.Traces.{deedAt, isEvent, madeAt, usedAt, placeAt, markedKey, markedKeys, markedPlace, keyMarks, placeMarks, withUser, usersBelow, usersOf, keysAt, afterKeyBy, afterReadBy, afterKey, afterRead, rowOf, rowsOf}
 use Rattle.traces.specs.declared.KeyMarks.{KeyMarks}
 use Rattle.traces.specs.declared.PlaceMarks.{PlaceMarks}
 use Rattle.traces.specs.declared.Users.{Users}
@@ -302,3 +303,23 @@ unfolding rowsOf
 rows-are ds n events takers readers rows t r l h =
     tab-of keyCount (λ e. rowOf (deedAt ds e) (slotAt n e) events takers readers) rows (keys 0) l h ∙
     ap₂ (λ (x y : Users). tab keyCount (λ e. rowOf (deedAt ds e) (slotAt n e) events x y)) t r
+
+-- a row from the sets that the code looked up
+module _ (takers readers : Users) (k : Key) where
+  pub key-looked : (i : ℕ) (events : Keys) → i ≡ indexOf k → afterKeyBy events (keysAt takers i) (keysAt readers i) k ≡ afterKey events takers readers k
+  unfolding afterKeyBy afterKey
+  key-looked i events e = cases (isKey k) (λ t. rw (e, t)) (λ t. rw t)
+
+  pub read-looked : (i deed : ℕ) → i ≡ indexOf k → afterReadBy deed (keysAt takers i) k ≡ afterRead deed takers k
+  unfolding afterReadBy afterRead
+  read-looked i deed e = cases (isKey k) (λ t. rw (e, t)) (λ t. rw t)
+
+pub row-looked : (deed : ℕ) (x : Slot) (events : Keys) (takers readers : Users) (f g u : ℕ) (one two three made row : Keys) → f ≡ indexOf (x .first) → g ≡ indexOf (x .second) → u ≡ indexOf (x .used)
+    → one ≡ afterKeyBy events (keysAt takers f) (keysAt readers f) (x .first) → two ≡ afterKeyBy events (keysAt takers g) (keysAt readers g) (x .second) → three ≡ afterReadBy deed (keysAt takers u) (x .used)
+    → made ≡ either one two → row ≡ either made three → row ≡ rowOf deed x events takers readers
+unfolding rowOf
+row-looked deed x events takers readers f g u one two three made row is-f is-g is-u is-one is-two is-three is-made is-row =
+    let first : one ≡ afterKey events takers readers (x .first) = is-one ∙ key-looked takers readers (x .first) f events is-f in
+    let second : two ≡ afterKey events takers readers (x .second) = is-two ∙ key-looked takers readers (x .second) g events is-g in
+    let third : three ≡ afterRead deed takers (x .used) = is-three ∙ read-looked takers readers (x .used) u deed is-u in
+    is-row ∙ ap (λ (m : Keys). either m three) is-made ∙ (λ i. either (either (first i) (second i)) (third i))

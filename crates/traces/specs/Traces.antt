@@ -102,6 +102,14 @@ usersBelow i d ds n = record { of = tab keyCount (λ t. keys (wordOf i (λ f. us
 abbrev pub usersOf : ℕ → List ℕ → Net → Users
 usersOf d ds n = usersBelow keyCount d ds n
 
+-- the same from the sets of those that took and read the tuple of that key
+unfoldable pub afterKeyBy : Keys → Keys → Keys → Key → Keys
+afterKeyBy events takes reads k =
+    pick (isKey k) (pick (isIn events k) (including (either takes reads) k) (either takes reads)) (keys 0)
+
+unfoldable pub afterReadBy : ℕ → Keys → Key → Keys
+afterReadBy deed takes t = pick (eqb deed 3) (pick (isKey t) takes (keys 0)) (keys 0)
+
 -- what depends on who made the key: the event of that key, and the users of that tuple
 unfoldable pub afterKey : Keys → Users → Users → Key → Keys
 afterKey events takers readers k =

@@ -4,11 +4,12 @@ ghost use mathlib.Core.Path.{_≡_};
 ghost use Prim.Native.Nat.{_<_};
 ghost use Rattle.laws.specs.Lists.{tab};
 ghost use Rattle.names.specs.Names.{keyCount};
-ghost use Rattle.traces.specs.Traces.{deedOf, deedsOf, eventsOf, markedKey, markedKeys, markedPlace, keysMade, localitiesMade, tuplesTaken, withUser, usersOf, afterKey, afterRead, rowOf, rowsOf};
+ghost use Rattle.traces.specs.Traces.{deedOf, deedsOf, eventsOf, markedKey, markedKeys, markedPlace, keysMade, localitiesMade, tuplesTaken, withUser, usersOf, afterKeyBy, afterReadBy, rowsOf};
 use images::Action;
 use images::Net;
 use images::Script;
 use images::Slot;
+use images::net_image::index_of;
 use names::Key;
 use names::Keys;
 use names::Localities;
@@ -212,16 +213,13 @@ fn users_of(deed: u8, deeds: [u8; Key::COUNT], n: Net) -> Users
     users
 }
 
-// What depends on an event that made this key: the event of that key, and the users of that tuple.
-fn after_key(events: Keys, takers: Users, readers: Users, k: Key) -> Keys
-    ensures { λ r. ⌜ r ≡ afterKey events takers readers k ⌝ }
+// What depends on an event that made this key: the event of that key, and those that took or read that tuple.
+fn after_key(events: Keys, takes: Keys, reads: Keys, k: Key) -> Keys
+    ensures { λ r. ⌜ r ≡ afterKeyBy events takes reads k ⌝ }
 {
     if !k.is_key() {
         return Keys::EMPTY;
     }
-    let i = k.0 as usize;
-    let takes = takers.of[i];
-    let reads = readers.of[i];
     let users = takes.either(reads);
     if events.has(k) {
         return users.with(k);
@@ -230,8 +228,8 @@ fn after_key(events: Keys, takers: Users, readers: Users, k: Key) -> Keys
 }
 
 // What depends on an event since it read this tuple: whoever took it.
-fn after_read(deed: u8, takers: Users, tuple: Key) -> Keys
-    ensures { λ r. ⌜ r ≡ afterRead deed takers tuple ⌝ }
+fn after_read(deed: u8, takes: Keys, tuple: Key) -> Keys
+    ensures { λ r. ⌜ r ≡ afterReadBy deed takes tuple ⌝ }
 {
     if deed != Action::READ {
         return Keys::EMPTY;
@@ -239,21 +237,7 @@ fn after_read(deed: u8, takers: Users, tuple: Key) -> Keys
     if !tuple.is_key() {
         return Keys::EMPTY;
     }
-    let i = tuple.0 as usize;
-    takers.of[i]
-}
-
-fn row_of(deed: u8, x: Slot, events: Keys, takers: Users, readers: Users) -> Keys
-    ensures { λ r. ⌜ r ≡ rowOf deed x events takers readers ⌝ }
-{
-    let first = x.first;
-    let second = x.second;
-    let used = x.used;
-    let one = after_key(events, takers, readers, first);
-    let two = after_key(events, takers, readers, second);
-    let three = after_read(deed, takers, used);
-    let made = one.either(two);
-    made.either(three)
+    takes
 }
 
 // For each event the events that depend on it directly.
@@ -265,8 +249,19 @@ pub fn rows_of(deeds: [u8; Key::COUNT], n: Net, events: Keys) -> [Keys; Key::COU
     let mut rows = [Keys::EMPTY; Key::COUNT];
     let mut i: usize = 0;
     while i < Key::COUNT {
+        let deed = deeds[i];
         let x = n.slots[i];
-        rows[i] = row_of(deeds[i], x, events, takers, readers);
+        let first = x.first;
+        let f = index_of(first);
+        let one = after_key(events, takers.of[f], readers.of[f], first);
+        let second = x.second;
+        let g = index_of(second);
+        let two = after_key(events, takers.of[g], readers.of[g], second);
+        let used = x.used;
+        let u = index_of(used);
+        let three = after_read(deed, takers.of[u], used);
+        let made = one.either(two);
+        rows[i] = made.either(three);
         i += 1;
     }
     rows

@@ -1,7 +1,7 @@
 -- `after_key` meets its contract. Assumes nothing.
-use mathlib.Core.Path.{_∙_, sym}
-use borrow.Author.Tests.{ltb-true, not-true, not-false}
-use Rattle.traces.specs.Traces.{afterKey}
+use mathlib.Core.Path.{_≡_, _∙_, sym, ap, ap₂, subst}
+use borrow.Author.Tests.{eq-eqb, ne-eqb, ltb-true, not-true, not-false}
+use Rattle.traces.specs.Traces.{afterKeyBy}
 use borrow.Author.Needs.{needs}
 use Rattle.traces.proofs.after_key.Statement.{statement}
 use Rattle.traces.proofs.after_key.Tie as tie
@@ -16,40 +16,25 @@ is-key-requires : tie.Need-is-key-requires
 is-key-requires c κs = search needs
 
 returns : tie.Need-returns
-unfolding afterKey
+unfolding afterKeyBy
 returns c = rw (sym (c .before .is-key .ensures) ∙ not-true _ (c .if1 .taken))
-
-cast-i : tie.Need-cast-i
-cast-i c = search needs
-
-mul-takes : tie.Need-mul-takes
-mul-takes c = search needs
-
-element-copy-out-takes : tie.Need-element-copy-out-takes
-element-copy-out-takes c = ltb-true _ 64 (sym (c .before .before .is-key .ensures) ∙ not-false _ (c .before .if1 .left))
-
-mul-reads : tie.Need-mul-reads
-mul-reads c = search needs
-
-element-copy-out-reads : tie.Need-element-copy-out-reads
-element-copy-out-reads c = ltb-true _ 64 (sym (c .before .before .before .is-key .ensures) ∙ not-false _ (c .before .before .if1 .left))
 
 either-requires : tie.Need-either-requires
 either-requires c κs = search needs
 
 has-requires : tie.Need-has-requires
-has-requires c κs = ltb-true _ 64 (sym (c .before .before .before .before .before .is-key .ensures) ∙ not-false _ (c .before .before .before .before .if1 .left))
+has-requires c κs = ltb-true _ 64 (sym (c .before .before .is-key .ensures) ∙ not-false _ (c .before .if1 .left))
 
 with-requires : tie.Need-with-requires
-with-requires c κs = ltb-true _ 64 (sym (c .before .before .before .before .before .before .before .is-key .ensures) ∙ not-false _ (c .before .before .before .before .before .before .if1 .left))
+with-requires c κs = ltb-true _ 64 (sym (c .before .before .before .before .is-key .ensures) ∙ not-false _ (c .before .before .before .if1 .left))
 
 returns-2 : tie.Need-returns-2
-unfolding afterKey
-returns-2 c = rw (sym (c .before .before .before .before .before .before .before .before .is-key .ensures) ∙ not-false _ (c .before .before .before .before .before .before .before .if1 .left), sym (c .before .before .has .ensures) ∙ c .before .if2 .taken, c .with .ensures, c .before .before .before .either .ensures)
+unfolding afterKeyBy
+returns-2 c = rw (sym (c .before .before .before .before .before .is-key .ensures) ∙ not-false _ (c .before .before .before .before .if1 .left), sym (c .before .before .has .ensures) ∙ c .before .if2 .taken, c .with .ensures, c .before .before .before .either .ensures)
 
 returns-3 : tie.Need-returns-3
-unfolding afterKey
-returns-3 c = rw (sym (c .before .before .before .before .before .before .before .is-key .ensures) ∙ not-false _ (c .before .before .before .before .before .before .if1 .left), sym (c .before .has .ensures) ∙ c .if2 .left, c .before .before .either .ensures)
+unfolding afterKeyBy
+returns-3 c = rw (sym (c .before .before .before .before .is-key .ensures) ∙ not-false _ (c .before .before .before .if1 .left), sym (c .before .has .ensures) ∙ c .if2 .left, c .before .before .either .ensures)
 
 pub after-key-spec : {M : Type 1} → statement M
 after-key-spec =
@@ -57,11 +42,6 @@ after-key-spec =
     (tie.spec
     is-key-requires
     returns
-    cast-i
-    mul-takes
-    element-copy-out-takes
-    mul-reads
-    element-copy-out-reads
     either-requires
     has-requires
     with-requires

@@ -1,7 +1,7 @@
 -- `after_read` meets its contract. Assumes nothing.
-use mathlib.Core.Path.{_∙_, sym}
+use mathlib.Core.Path.{_≡_, _∙_, sym, ap, ap₂, subst}
 use borrow.Author.Tests.{eq-eqb, ne-eqb, ltb-true, not-true, not-false}
-use Rattle.traces.specs.Traces.{afterRead}
+use Rattle.traces.specs.Traces.{afterReadBy}
 use borrow.Author.Needs.{needs}
 use Rattle.traces.proofs.after_read.Statement.{statement}
 use Rattle.traces.proofs.after_read.Tie as tie
@@ -10,37 +10,19 @@ use Rattle.traces.proofs.after_read.Lts as lts
 use Rattle.names.proofs.Key.is_key.Reads as is-key-reads
 
 returns : tie.Need-returns
-unfolding afterRead
+unfolding afterReadBy
 returns c = rw (ne-eqb _ _ (c .if1 .taken))
 
 is-key-requires : tie.Need-is-key-requires
 is-key-requires c κs = search needs
 
 returns-2 : tie.Need-returns-2
-unfolding afterRead
+unfolding afterReadBy
 returns-2 c = rw (eq-eqb _ _ (c .before .before .if1 .left), sym (c .before .is-key .ensures) ∙ not-true _ (c .if2 .taken))
 
-cast-i : tie.Need-cast-i
-cast-i c = search needs
-
-mul-result : tie.Need-mul-result
-mul-result c = search needs
-
-element-copy-out-result : tie.Need-element-copy-out-result
-element-copy-out-result c = ltb-true _ 64 (sym (c .before .before .is-key .ensures) ∙ not-false _ (c .before .if2 .left))
-
 returns-3 : tie.Need-returns-3
-unfolding afterRead
-returns-3 c = rw (eq-eqb _ _ (c .before .before .before .before .if1 .left), sym (c .before .before .before .is-key .ensures) ∙ not-false _ (c .before .before .if2 .left))
+unfolding afterReadBy
+returns-3 c = rw (eq-eqb _ _ (c .before .before .if1 .left), sym (c .before .is-key .ensures) ∙ not-false _ (c .if2 .left))
 
 pub after-read-spec : {M : Type 1} → statement M
-after-read-spec =
-    tie.close
-    (tie.spec
-    returns
-    is-key-requires
-    returns-2
-    cast-i
-    mul-result
-    element-copy-out-result
-    returns-3)
+after-read-spec = tie.close (tie.spec returns is-key-requires returns-2 returns-3)

@@ -6,7 +6,6 @@ use Rattle.accept.proofs.whole.tuple_right.Statement.{statement}
 use Rattle.accept.proofs.whole.tuple_right.Tie as tie
 use Rattle.accept.proofs.whole.tuple_right.Reads as reads
 use Rattle.accept.proofs.whole.tuple_right.Lts as lts
-use Rattle.images.proofs.net_image.slot_with.Reads as slot-with-reads
 use Rattle.names.proofs.Keys.has.Reads as has-reads
 
 has-requires : tie.Need-has-requires
@@ -20,12 +19,9 @@ returns-2 : tie.Need-returns-2
 unfolding tupleRight
 returns-2 c = rw (ne-eqb _ _ (c .before .if1 .left), ne-eqb _ _ (c .if2 .taken))
 
-slot-with-requires : tie.Need-slot-with-requires
-slot-with-requires c κs = search needs
-
 returns-3 : tie.Need-returns-3
 unfolding tupleRight
-returns-3 c = rw (ne-eqb _ _ (c .before .before .before .before .if1 .left), eq-eqb _ _ (c .before .before .before .if2 .left), c .before .slot-with .ensures)
+returns-3 c = rw (ne-eqb _ _ (c .before .before .if1 .left), eq-eqb _ _ (c .before .if2 .left))
 
 pub tuple-right-spec : {M : Type 1} → statement M
-tuple-right-spec = tie.close (tie.spec has-requires returns returns-2 slot-with-requires returns-3)
+tuple-right-spec = tie.close (tie.spec has-requires returns returns-2 returns-3)
