@@ -1,11 +1,11 @@
 -- What each turn of a loop over the events finds: the laws that its proof applies, over plain variables.
 --
--- In order: a node that is none (`no-node`); numbers that rows speak of, and whether each was spoken of once, at any width W (`Seen`, `seen`,
+-- In order: a node that is none (`no-node`), a deed from what was looked up (`deed-looked`); numbers that rows speak of, and whether each was spoken of once, at any width W (`Seen`, `seen`,
 -- `saw`), with one row more, of no number, one, or two (`seen-none`, `seen-one`, `seen-two`); events as a set, with one slot more
 -- (`event-none`, `event-more`); marks of keys and of localities, with one row more (`keys-none`, `keys-one`, `keys-two`); what one
 -- event more made or used (`made-none`, `made-more`, `used-none`, `used-more`, `place-none`, `place-more`); no event yet (`keys-start`,
 -- `places-start`); users of tuples, with no event yet and one event more (`users-start`, `users-none`, `users-more`); the
--- rows of dependence (`rows-are`).
+-- rows of dependence (`rows-are`), from what was looked up (`key-looked`, `read-looked`, `row-looked`).
 -- Assumes nothing.
 use mathlib.Core.Path.{_≡_, refl, sym, ap, ap₂, _∙_}
 use mathlib.Core.Bool.{Bool, true, false, not, _&&_, _||_, and-true, or-false}
@@ -25,19 +25,21 @@ use Rattle.laws.specs.Sets.{member, including, member-including-other, member-e
 use Rattle.order.specs.KeySets.{Set, only, _∪_, _∩_, any, any-not}
 use Rattle.order.specs.Distinct.{gathered, gathered-next, distinct, distinct-next, row-none, row-one, row-two}
 use Rattle.order.specs.Words.{wordOf, wordOf-in, wordOf-is, wordOf-next, wordOf-ext, wordOf-more}
-use Rattle.names.specs.Names.{keyCount, localityCount, nodeCount, key, isKey}
+use Rattle.names.specs.Names.{keyCount, localityCount, nodeCount, key, isKey, isNode}
 use Rattle.names.specs.KeySets.{keys, either}
 use Rattle.names.specs.Localities.{localities}
 use Rattle.names.specs.declared.Key.{Key}
 use Rattle.names.specs.declared.Keys.{Keys}
 use Rattle.names.specs.declared.Locality.{Locality}
+use Rattle.names.specs.declared.Node.{Node}
 use Rattle.images.specs.Script.{action0, actionAt}
 use Rattle.images.specs.Net.{slotAt, indexOf}
+use Rattle.images.specs.Read.{nodeIndex}
 use Rattle.images.specs.declared.Action.{Action}
 use Rattle.images.specs.declared.Script.{Script}
 use Rattle.images.specs.declared.Slot.{Slot}
 use Rattle.images.specs.declared.Net.{Net}
-use Rattle.traces.specs.Traces.{deedAt, isEvent, madeAt, usedAt, placeAt, markedKey, markedKeys, markedPlace, keyMarks, placeMarks, withUser, usersBelow, usersOf, keysAt, afterKeyBy, afterReadBy, afterKey, afterRead, rowOf, rowsOf}
+use Rattle.traces.specs.Traces.{deedOf, deedBy, deedAt, isEvent, madeAt, usedAt, placeAt, markedKey, markedKeys, markedPlace, keyMarks, placeMarks, withUser, usersBelow, usersOf, keysAt, afterKeyBy, afterReadBy, afterKey, afterRead, rowOf, rowsOf}
 use Rattle.traces.specs.declared.KeyMarks.{KeyMarks}
 use Rattle.traces.specs.declared.PlaceMarks.{PlaceMarks}
 use Rattle.traces.specs.declared.Users.{Users}
@@ -45,6 +47,16 @@ use Rattle.traces.specs.declared.Users.{Users}
 -- a number that is no node's does nothing
 pub no-node : (s : Script) (i : ℕ) → length (s .nodes) ≡ nodeCount → nodeCount ≤ i → actionAt s i .kind ≡ 0
 no-node s i e h = ap (λ (a : Action). a .kind) (List·getD-eq-default (s .nodes) action0 (omega (arith, e)))
+
+-- a deed from what the code looked up
+pub deed-looked : (s : Script) → length (s .nodes) ≡ nodeCount → (x : Slot) (p d : ℕ) → p ≡ nodeIndex (x .node) → d ≡ deedBy (x .kind) (x .node) (actionAt s p .kind) → d ≡ deedOf s x
+unfolding deedBy deedOf
+deed-looked s whole x p d is-p is-d =
+    is-d ∙ ap (λ (i : ℕ). pick (eqb (x .kind) 2) (pick (isNode (x .node)) (actionAt s i .kind) 0) 0) is-p ∙
+    ap (λ (k : ℕ). pick (eqb (x .kind) 2) k 0) (by-node (x .node))
+  where
+    by-node : (k : Node) → pick (isNode k) (actionAt s (nodeIndex k) .kind) 0 ≡ actionAt s (k .0) .kind
+    by-node k = cases (isNode k) (λ t. rw t) (λ t. rw t (sym (no-node s (k .0) whole (ltb-false (k .0) nodeCount t))))
 
 same-number : (a b : ℕ) → eqb a b ≡ eqb b a
 same-number a b = agree (eqb a b) (eqb b a) (λ t. eq-eqb b a (sym (eqb-true a b t))) (λ t. eq-eqb a b (sym (eqb-true b a t)))

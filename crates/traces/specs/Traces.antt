@@ -13,12 +13,13 @@ use Rattle.laws.specs.Lists.{tab}
 use Rattle.order.specs.KeySets.{Set}
 use Rattle.order.specs.Distinct.{gathered, distinct}
 use Rattle.order.specs.Words.{wordOf}
-use Rattle.names.specs.Names.{keyCount, localityCount, key, isKey, isLocality}
+use Rattle.names.specs.Names.{keyCount, localityCount, key, isKey, isLocality, isNode}
 use Rattle.names.specs.Localities.{localities, holds, joined}
 use Rattle.names.specs.KeySets.{keys, isIn, including, either}
 use Rattle.names.specs.declared.Key.{Key}
 use Rattle.names.specs.declared.Keys.{Keys}
 use Rattle.names.specs.declared.Locality.{Locality}
+use Rattle.names.specs.declared.Node.{Node}
 use Rattle.images.specs.Script.{actionAt}
 use Rattle.images.specs.Net.{slotAt}
 use Rattle.images.specs.declared.Script.{Script}
@@ -33,6 +34,10 @@ use Rattle.traces.specs.declared.Users.{Users}
 -- the kind of an event's node; 0, which is nil's, where the slot holds no event
 unfoldable pub deedOf : Script → Slot → ℕ
 deedOf s x = pick (eqb (x .kind) 2) (actionAt s (x .node .0) .kind) 0
+
+-- the same from the slot's kind, its node, and the kind of what was found there
+unfoldable pub deedBy : ℕ → Node → ℕ → ℕ
+deedBy kind p act = pick (eqb kind 2) (pick (isNode p) act 0) 0
 
 unfoldable pub deedsOf : Script → Net → List ℕ
 deedsOf s n = tab keyCount (λ e. deedOf s (slotAt n e))

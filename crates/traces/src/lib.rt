@@ -4,16 +4,18 @@ ghost use mathlib.Core.Path.{_≡_};
 ghost use Prim.Native.Nat.{_<_};
 ghost use Rattle.laws.specs.Lists.{tab};
 ghost use Rattle.names.specs.Names.{keyCount};
-ghost use Rattle.traces.specs.Traces.{deedOf, deedsOf, eventsOf, markedKey, markedKeys, markedPlace, keysMade, localitiesMade, tuplesTaken, withUser, usersOf, afterKeyBy, afterReadBy, rowsOf};
+ghost use Rattle.traces.specs.Traces.{deedBy, deedsOf, eventsOf, markedKey, markedKeys, markedPlace, keysMade, localitiesMade, tuplesTaken, withUser, usersOf, afterKeyBy, afterReadBy, rowsOf};
 use images::Action;
 use images::Net;
 use images::Script;
 use images::Slot;
 use images::net_image::index_of;
+use images::script_image::node_index;
 use names::Key;
 use names::Keys;
 use names::Localities;
 use names::Locality;
+use names::Node;
 
 // Keys that events speak of, and whether each was spoken of once.
 pub struct KeyMarks {
@@ -33,19 +35,17 @@ pub struct Users {
 
 // ---- what each event did
 
-// The kind of an event's node; nil where the slot holds no event.
-fn deed_of(s: Script, x: Slot) -> u8
-    ensures { λ r. ⌜ r ≡ deedOf s x ⌝ }
+// The kind of an event's node; nil where the slot holds no event, or there is no such node.
+fn deed_of(kind: u8, node: Node, act: u8) -> u8
+    ensures { λ r. ⌜ r ≡ deedBy kind node act ⌝ }
 {
-    if x.kind != Slot::PAST {
+    if kind != Slot::PAST {
         return Action::NIL;
     }
-    let node = x.node;
     if !node.is_node() {
         return Action::NIL;
     }
-    let i = node.0 as usize;
-    s.nodes[i].kind
+    act
 }
 
 pub fn deeds_of(s: Script, n: Net) -> [u8; Key::COUNT]
@@ -55,7 +55,10 @@ pub fn deeds_of(s: Script, n: Net) -> [u8; Key::COUNT]
     let mut i: usize = 0;
     while i < Key::COUNT {
         let x = n.slots[i];
-        deeds[i] = deed_of(s, x);
+        let node = x.node;
+        let p = node_index(node);
+        let act = s.nodes[p].kind;
+        deeds[i] = deed_of(x.kind, node, act);
         i += 1;
     }
     deeds
