@@ -7,7 +7,7 @@ ghost use Rattle.rules.specs.View.{view};
 ghost use Rattle.requests.specs.Checks.{refusal};
 ghost use Rattle.requests.specs.Requests.{answerOf};
 ghost use Rattle.step.specs.Tests.{checked, madeLive, readLive, readsKey, noneReads, canUndo, backwardTests};
-ghost use Rattle.step.specs.Laws.{Undoes};
+ghost use Rattle.step.specs.Laws.{Undoes, undoing};
 ghost use Rattle.step.specs.Backward.{backwardOther, presentBefore, freedAt, backwardDone, backwardChange};
 use super::Change;
 use super::Check;
@@ -244,9 +244,9 @@ pub fn backward(s: Script, n: Net, r: Request) -> Change
     backward_done(a, x, first, second, t, present, key)
 }
 
-// The event is undone where it may be: what rollback stands on.
+// The event is undone where it may be: what rollback stands on. Of an accepted net the second part says all in the words of the theory.
 pub fn undo(s: Script, n: Net, k: Key) -> Change
-    ensures { λ c. ⌜ ((scriptInRange s ≡ true) → Accepted (view s n) → Undoes s n k c) ⌝ }
+    ensures { λ c. ⌜ (c ≡ backwardChange s n (undoing k)) × ((scriptInRange s ≡ true) → Accepted (view s n) → Undoes s n k c) ⌝ }
 {
     let r = Request {
         code: Request::BACKWARD,

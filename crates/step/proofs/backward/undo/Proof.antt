@@ -17,9 +17,11 @@ returns : tie.Need-returns
 returns c =
     let s = c .before .args .s in
     let n = c .before .args .n in
-    let k = c .before .args .k in
-    λ in-form ok.
-    subst (λ (o : Change). Undoes s n k o) (sym (c .backward .ensures)) (undo-promised s (shaped-script s _ (c .before .good .0)) in-form n (shaped-net n _ (c .before .good .1 .0) .slots) ok k)
+    let k = c .before .args .k in (
+      c .backward .ensures,
+      λ in-form ok.
+          subst (λ (o : Change). Undoes s n k o) (sym (c .backward .ensures)) (undo-promised s (shaped-script s _ (c .before .good .0)) in-form n (shaped-net n _ (c .before .good .1 .0) .slots) ok k),
+    )
 
 pub undo-spec : {M : Type 1} → statement M
 undo-spec = tie.close (tie.spec backward-requires returns)
