@@ -5,19 +5,20 @@
 -- Assumes nothing.
 use Prim.Native.Nat.{ℕ}
 use mathlib.Core.Bool.{Bool, true, false, _&&_, _||_, not}
-use mathlib.Core.Path.{_≡_, refl, ap}
+use mathlib.Core.Path.{_≡_, refl, ap, _∙_}
 use mathlib.Core.List.{List, [], _∷_}
 use native.Mathlib.Omega.{arith}
 use lib.Dec.{eqb, ltb}
-use Rattle.laws.specs.Choice.{pick, _⇒_}
+use Rattle.laws.specs.Choice.{pick, cases, _⇒_}
 use Rattle.laws.specs.Checks.{all}
-use Rattle.names.specs.Names.{keyCount, locality, isKey}
+use Rattle.names.specs.Names.{keyCount, locality, isKey, isNode}
 use Rattle.names.specs.declared.Key.{Key}
 use Rattle.names.specs.Localities.{holds}
 use Rattle.names.specs.declared.Locality.{Locality}
 use Rattle.names.specs.declared.Localities.{Localities}
 use Rattle.images.specs.Net.{isFree, slotAt}
-use Rattle.images.specs.Read.{nodeWith}
+use Rattle.images.specs.Read.{nodeIndex, nodeWith}
+use Rattle.images.specs.Script.{actionAt}
 use Rattle.images.specs.declared.Action.{Action}
 use Rattle.images.specs.declared.Datum.{Datum}
 use Rattle.images.specs.declared.Script.{Script}
@@ -80,6 +81,16 @@ readLive kind used t = isRead kind ⇒ (isKey used ⇒ eqb (t .kind) 3)
 -- the slot holds a past read of the key
 unfoldable pub readsKey : Script → Slot → Key → Bool
 readsKey s x k = eqb (x .kind) 2 && (eqb (x .used .0) (k .0) && isRead (nodeWith s (x .node) .kind))
+
+-- the same from the kind of what stands at its node's place
+unfoldable pub readsBy : Slot → ℕ → Key → Bool
+readsBy x act k = eqb (x .kind) 2 && (eqb (x .used .0) (k .0) && (isNode (x .node) && isRead act))
+
+pub reads-looked : (s : Script) (x : Slot) (k : Key) (p : ℕ) → p ≡ nodeIndex (x .node) → readsBy x (actionAt s p .kind) k ≡ readsKey s x k
+unfolding readsBy readsKey
+reads-looked s x k p e =
+    ap (λ (i : ℕ). eqb (x .kind) 2 && (eqb (x .used .0) (k .0) && (isNode (x .node) && isRead (actionAt s i .kind)))) e ∙
+    ap (λ (b : Bool). eqb (x .kind) 2 && (eqb (x .used .0) (k .0) && b)) (cases (isNode (x .node)) (λ t. rw t) (λ t. rw t))
 
 unfoldable pub noneReads : Script → Net → Key → Bool
 noneReads s n k = isKey k ⇒ all keyCount (λ f. not (readsKey s (slotAt n f) k))

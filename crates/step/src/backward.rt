@@ -6,7 +6,7 @@ ghost use Rattle.nets.specs.Accepted.{Accepted};
 ghost use Rattle.rules.specs.View.{view};
 ghost use Rattle.requests.specs.Checks.{refusal};
 ghost use Rattle.requests.specs.Requests.{answerOf};
-ghost use Rattle.step.specs.Tests.{checked, madeLive, readLive, readsKey, noneReads, canUndo, backwardTests};
+ghost use Rattle.step.specs.Tests.{checked, madeLive, readLive, readsBy, noneReads, canUndo, backwardTests};
 ghost use Rattle.step.specs.Laws.{Undoes, undoing};
 ghost use Rattle.step.specs.Backward.{backwardOther, presentBefore, freedAt, backwardDone, backwardChange};
 use super::Change;
@@ -24,6 +24,7 @@ use images::Script;
 use images::Slot;
 use images::net_image::free_slot;
 use images::net_image::slot_with;
+use images::script_image::node_index;
 use images::script_image::node_with;
 use names::Key;
 use names::Localities;
@@ -59,9 +60,9 @@ fn read_live(kind: u8, used: Key, t: Slot) -> bool
     t.kind == Slot::TUPLE
 }
 
-// The slot holds a past read of the key.
-fn reads_key(s: Script, x: Slot, k: Key) -> bool
-    ensures { λ r. ⌜ r ≡ readsKey s x k ⌝ }
+// The slot holds a past read of the key; act is the kind of what stands at its node's place.
+fn reads_key(x: Slot, act: u8, k: Key) -> bool
+    ensures { λ r. ⌜ r ≡ readsBy x act k ⌝ }
 {
     if x.kind != Slot::PAST {
         return false;
@@ -70,8 +71,10 @@ fn reads_key(s: Script, x: Slot, k: Key) -> bool
         return false;
     }
     let node = x.node;
-    let a = node_with(s, node);
-    a.kind == Action::READ
+    if !node.is_node() {
+        return false;
+    }
+    act == Action::READ
 }
 
 fn none_reads(s: Script, n: Net, k: Key) -> bool
@@ -83,7 +86,10 @@ fn none_reads(s: Script, n: Net, k: Key) -> bool
     let mut i: usize = 0;
     while i < Key::COUNT {
         let x = n.slots[i];
-        if reads_key(s, x, k) {
+        let node = x.node;
+        let p = node_index(node);
+        let act = s.nodes[p].kind;
+        if reads_key(x, act, k) {
             return false;
         }
         i += 1;
