@@ -1,10 +1,10 @@
 -- The tests that the code makes of the net as a whole (`Whole`) are the theory's (`nets`, `Accepting`), of the net that the image holds; so
 -- what the code answers is the verdict.
 --
--- In order: tests together (`all-and`, `picked`, `either-both` and their kin); steps of the code's loops (`maker-missing`, `root-at`);
--- agreement (`agree-told`), by which events that use a tuple have its key (`used-told`); made and taken once (`once-told`); tuples,
--- localities and roots (`tuples-told`, `localities-told`, `roots-told`); dependence (`cycle-told`); the first clause that fails (`firstOf`), and
--- the code's answers, one by one (`verdict-..`).
+-- In order: tests together (`all-and`, `picked`, `either-both` and their kin); steps of the code's loops (`maker-missing`, `root-at`,
+-- `consumed-tuple` and its kin); agreement (`agree-told`), by which events that use a tuple have its key (`used-told`); made and taken once
+-- (`once-told`); tuples, localities and roots (`tuples-told`, `localities-told`, `roots-told`); dependence (`cycle-told`); the first clause that
+-- fails (`firstOf`), and the code's answers, one by one (`verdict-..`).
 -- Assumes nothing.
 use Prim.Native.Nat.{ℕ, _<_, _≤_}
 use mathlib.Core.Path.{_≡_, refl, ap, ap₂, sym, _∙_, subst, fun-ext}
@@ -12,7 +12,7 @@ use mathlib.Core.Bool.{Bool, true, false, _&&_, _||_, not, and-true}
 use mathlib.Core.List.{List}
 use native.Mathlib.Omega.{arith}
 use lib.Dec.{eqb, ltb, leb}
-use borrow.Author.Tests.{eqb-true, eq-eqb, ltb-true, ltb-false, lt-ltb, le-leb}
+use borrow.Author.Tests.{eqb-true, eq-eqb, ne-eqb, ltb-true, ltb-false, lt-ltb, le-leb}
 use Rattle.laws.specs.Choice.{pick, cases, fails, and-left, and-right, and-both, agree, sameb, _⇒_, told}
 use Rattle.laws.specs.Checks.{all, all-of, all-at, all-ext}
 use Rattle.laws.specs.Sets.{member}
@@ -25,6 +25,7 @@ use Rattle.names.specs.declared.Keys.{Keys}
 use Rattle.names.specs.declared.Localities.{Localities}
 use Rattle.images.specs.Net.{slotAt, slotWith}
 use Rattle.images.specs.Net as I
+use Rattle.images.specs.Lookup.{slot-found}
 use Rattle.images.specs.Shape.{ShapedScript, ShapedNet}
 use Rattle.images.specs.declared.Script.{Script}
 use Rattle.images.specs.declared.Slot as Image
@@ -93,6 +94,36 @@ maker-missing l low high e =
 -- whether the key is made was found before
 pub root-at : (present : Localities) (m b r : Bool) (x : Image.Slot) → m ≡ b → r ≡ W.rootRight present m x → W.rootRight present b x ≡ r
 root-at present m b r x e h = ap (λ (c : Bool). W.rootRight present c x) (sym e) ∙ sym h
+
+-- tuples, at a slot: a consumed one was taken; what an in took, as the code looked it up, is no live one; of any other slot nothing is asked
+module _ (ds : List ℕ) (n : Images.Net) (taken : Keys) (k : ℕ) where
+  abbrev x : Image.Slot
+  x = slotAt n k
+
+  abbrev tupleAt : Bool
+  tupleAt = W.tupleRight (deedAt ds k) (key k) x (slotWith n (x .used)) taken
+
+  abbrev tookGone : Bool
+  tookGone = eqb (deedAt ds k) 2 ⇒ not (eqb (slotWith n (x .used) .kind) 3)
+
+  pub consumed-tuple : {b r : Bool} → x .kind ≡ 4 → b ≡ isIn taken (key k) → b ≡ r → tupleAt ≡ r
+  unfolding W.tupleRight
+  consumed-tuple consumed answered is-r =
+      ap (λ (c : Bool). pick c (isIn taken (key k)) tookGone) (eq-eqb (x .kind) 4 consumed) ∙ sym answered ∙ is-r
+
+  not-consumed : (x .kind ≡ 4 → ⊥) → tupleAt ≡ tookGone
+  unfolding W.tupleRight
+  not-consumed other = ap (λ (c : Bool). pick c (isIn taken (key k)) tookGone) (ne-eqb (x .kind) 4 other)
+
+  pub no-tuple : (x .kind ≡ 4 → ⊥) → (deedAt ds k ≡ 2 → ⊥) → tupleAt ≡ true
+  no-tuple other no-in =
+      not-consumed other ∙ ap (λ (c : Bool). c ⇒ not (eqb (slotWith n (x .used) .kind) 3)) (ne-eqb (deedAt ds k) 2 no-in)
+
+  pub taken-tuple : {u : ℕ} {t : Image.Slot} {live : Bool} → (x .kind ≡ 4 → ⊥) → deedAt ds k ≡ 2
+      → u ≡ I.indexOf (x .used) → t ≡ I.slotOr (x .used) (slotAt n u) → eqb (t .kind) 3 ≡ live → tupleAt ≡ not live
+  taken-tuple {u} {t} other by-in is-u is-t is-live =
+      let found : t ≡ slotWith n (x .used) = is-t ∙ slot-found n (x .used) (slotAt n u) (ap (slotAt n) is-u) in
+      not-consumed other ∙ (λ i. eq-eqb (deedAt ds k) 2 by-in i ⇒ not (eqb (sym found i .kind) 3)) ∙ ap not is-live
 
 module _ (s : Script) (n : Images.Net) where
   -- the net that the image holds, and what its events did
@@ -194,7 +225,7 @@ module _ (s : Script) (n : Images.Net) where
   present-at : (l : ℕ) → l < localityCount → holds (n .present) (locality l) ≡ seen .present l
   present-at l b = sym (view-present s n l ∙ ap (λ (c : Bool). c && member (n .present .0) l) (lt-ltb l localityCount b))
 
-  localities-told : W.localitiesRight n (localitiesMade deeds n .set) ≡ A.localitiesRight localityCount seen
+  localities-told : W.localitiesRight (n .present) (localitiesMade deeds n .set) ≡ A.localitiesRight localityCount seen
   unfolding W.localitiesRight W.localityRight A.localitiesRight
   localities-told =
       all-ext localityCount _ _ (λ l b. λ i. makeable l ⇒ sameb (present-at l b i) (localities-in s n l b i))
@@ -260,7 +291,7 @@ module _ (s : Script) (n : Images.Net) (w : ShapedScript s) (v : ShapedNet n) (a
     tuplesTest = W.tuplesRight ds n (taken .keys)
 
     abbrev localitiesTest : Bool
-    localitiesTest = W.localitiesRight n (places .set)
+    localitiesTest = W.localitiesRight (n .present) (places .set)
 
     abbrev rootsTest : Bool
     rootsTest = W.rootsRight n (made .keys)
@@ -275,7 +306,7 @@ module _ (s : Script) (n : Images.Net) (w : ShapedScript s) (v : ShapedNet n) (a
     tuples-found = (λ i. W.tuplesRight (did i) n (taken-found i .keys)) ∙ tuples-told s n
 
     localities-found : localitiesTest ≡ A.localitiesRight localityCount (view s n)
-    localities-found = ap (λ (m : PlaceMarks). W.localitiesRight n (m .set)) places-found ∙ localities-told s n
+    localities-found = ap (λ (m : PlaceMarks). W.localitiesRight (n .present) (m .set)) places-found ∙ localities-told s n
 
     roots-found : rootsTest ≡ A.rootsRight (view s n)
     roots-found = ap (λ (m : KeyMarks). W.rootsRight n (m .keys)) keys-are ∙ roots-told s n

@@ -32,8 +32,8 @@ unfoldable pub localityRight : Localities → Localities → Locality → Bool
 localityRight present made l = sameb (holds present l) (holds made l)
 
 -- "Localities 8..31 are present exactly when made."
-unfoldable pub localitiesRight : Net → Localities → Bool
-localitiesRight n made = all localityCount (λ l. makeable l ⇒ localityRight (n .present) made (locality l))
+unfoldable pub localitiesRight : Localities → Localities → Bool
+localitiesRight present made = all localityCount (λ l. makeable l ⇒ localityRight present made (locality l))
 
 unfoldable pub rootRight : Localities → Bool → Slot → Bool
 rootRight present made x =

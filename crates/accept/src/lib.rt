@@ -58,8 +58,9 @@ pub fn accept(s: Script, n: Net) -> Verdict
     if !tuples_right(deeds, n, taken_keys) {
         return Verdict::WrongTuple;
     }
+    let present = n.present;
     let made_places = places.set;
-    if !localities_right(n, made_places) {
+    if !localities_right(present, made_places) {
         return Verdict::WrongLocality;
     }
     let made_keys = made.keys;

@@ -1,7 +1,7 @@
 // Clauses about the net as a whole: tuples, localities and records that nobody made.
 ghost use mathlib.Core.Path.{_≡_};
 ghost use Prim.Native.Nat.{_<_};
-ghost use Rattle.accept.specs.Whole.{tupleRight, tuplesRight, localityRight, localitiesRight, rootRight, rootsRight};
+ghost use Rattle.accept.specs.Whole.{tuplesRight, localityRight, localitiesRight, rootRight, rootsRight};
 use images::Action;
 use images::Net;
 use images::Slot;
@@ -14,20 +14,7 @@ use names::Localities;
 use names::Locality;
 use rules::is_rooted;
 
-// A consumed tuple was taken; what an in took is no live tuple: t stands at the key that x used.
-fn tuple_right(deed: u8, k: Key, x: Slot, t: Slot, taken: Keys) -> bool
-    requires { ⌜ k .0 < 64 ⌝ }
-    ensures { λ r. ⌜ r ≡ tupleRight deed k x t taken ⌝ }
-{
-    if x.kind == Slot::CONSUMED {
-        return taken.has(k);
-    }
-    if deed != Action::IN {
-        return true;
-    }
-    t.kind != Slot::TUPLE
-}
-
+// A consumed tuple was taken; what an in took is no live tuple. What a slot used is looked up only for an in.
 pub fn tuples_right(deeds: [u8; Key::COUNT], n: Net, taken: Keys) -> bool
     ensures { λ r. ⌜ r ≡ tuplesRight deeds n taken ⌝ }
 {
@@ -35,11 +22,22 @@ pub fn tuples_right(deeds: [u8; Key::COUNT], n: Net, taken: Keys) -> bool
     while k < 64 {
         let i = k as usize;
         let x = n.slots[i];
+        if x.kind == Slot::CONSUMED {
+            if !taken.has(Key(k)) {
+                return false;
+            }
+            k += 1;
+            continue;
+        }
+        if deeds[i] != Action::IN {
+            k += 1;
+            continue;
+        }
         let used = x.used;
         let u = index_of(used);
         let at_used = n.slots[u];
         let t = slot_or_free(used, at_used);
-        if !tuple_right(deeds[i], Key(k), x, t, taken) {
+        if t.kind == Slot::TUPLE {
             return false;
         }
         k += 1;
@@ -58,10 +56,9 @@ fn locality_right(present: Localities, made: Localities, l: Locality) -> bool
 }
 
 // Localities 8..31 are present exactly when made.
-pub fn localities_right(n: Net, made: Localities) -> bool
-    ensures { λ r. ⌜ r ≡ localitiesRight n made ⌝ }
+pub fn localities_right(present: Localities, made: Localities) -> bool
+    ensures { λ r. ⌜ r ≡ localitiesRight present made ⌝ }
 {
-    let present = n.present;
     let mut l: u8 = Locality::FIRST_MADE;
     while l < 32 {
         if !locality_right(present, made, Locality(l)) {

@@ -131,18 +131,18 @@ references-length a k refs =
     pick-length (ltb (a .reference .0) referenceCount) _ refs (length refs) (length-set refs (a .reference .0) k) refl
 
 -- contents with all their places: eight variables or fields, four references
-abbrev Whole : Body → Type 0
+abbrev pub Whole : Body → Type 0
 Whole b = (length (b .contents) ≡ 8) × (length (b .refs) ≡ 4)
 
-whole-next : (a : Action) (k : Key) (b : Body) (fields : List Datum) (l : Locality) → Whole b → Whole (continuedBy a k b fields l)
+pub whole-next : (a : Action) (k : Key) (b : Body) (fields : List Datum) (l : Locality) → Whole b → Whole (continuedBy a k b fields l)
 unfolding continuedBy
 whole-next a k b fields l w = (variables-length a (b .contents) fields l ∙ w .0, references-length a k (b .refs) ∙ w .1)
 
-whole-tuple : (a : Action) (b : Body) → Whole (tupleBy a b)
+pub whole-tuple : (a : Action) (b : Body) → Whole (tupleBy a b)
 unfolding tupleBy
 whole-tuple a b = (length-tab 8 _, refl)
 
-whole-process : (a : Action) (b : Body) → Whole b → Whole (processBy a b)
+pub whole-process : (a : Action) (b : Body) → Whole b → Whole (processBy a b)
 unfolding processBy
 whole-process a b w = w
 

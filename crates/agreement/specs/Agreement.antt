@@ -1,7 +1,7 @@
 -- An event, its rule and what it made, as the code tests them on slots. Nothing here must be believed: `Agreed` proves these tests to be the
 -- theory's (`nets`, `Accepting`).
 -- In order: the places of an event (`placedBy`); its rule (`tupleFits`, `ruledBy`); what it made (`standsAs`, `productsStand`);
--- a slot that agrees if it holds an event, from what stands beside it (`agreesBy`) and in a net (`slotAgrees`).
+-- an event that agrees, from what stands beside it (`agreesBy`) and in a net (`agreesAt`), and a slot that agrees if it holds one (`slotAgrees`).
 -- Assumes nothing.
 use Prim.Native.Nat.{ℕ}
 use mathlib.Core.Bool.{Bool, _&&_, _||_, not}
@@ -87,9 +87,9 @@ productsStand a k x t first second =
 
 -- ---- the events of a net
 
--- the slot x with the key k, if it holds an event, at the node a; the others stand at the keys that it used and made
+-- the event x with the key k, at the node a; the others stand at the keys that it used and made
 unfoldable pub agreesBy : Action → Localities → Key → Slot → Slot → Slot → Slot → Bool
-agreesBy a present k x t first second = eqb (x .kind) 2 ⇒ (ruledBy a present x t && productsStand a k x t first second)
+agreesBy a present k x t first second = ruledBy a present x t && productsStand a k x t first second
 
 unfoldable pub agreesAt : Script → Net → Key → Slot → Bool
 agreesAt s n k x =
@@ -97,5 +97,6 @@ agreesAt s n k x =
     (ruledBy (actionAt s (x .node .0)) (n .present) x (slotWith n (x .used)) &&
     productsStand (actionAt s (x .node .0)) k x (slotWith n (x .used)) (slotWith n (x .first)) (slotWith n (x .second)))
 
+-- a slot that holds no event has nothing to agree with
 unfoldable pub slotAgrees : Script → Net → ℕ → Bool
 slotAgrees s n k = eqb (slotAt n k .kind) 2 ⇒ agreesAt s n (key k) (slotAt n k)

@@ -229,8 +229,8 @@ fn products_stand(a: Action, k: Key, x: Slot, t: Slot, first: Slot, second: Slot
 
 // ---- the events of a net
 
-// The slot x with this key agrees where it holds an event. Beside it stand its node, and what is at the keys that it used and made.
-fn slot_agrees(
+// The event x with this key agrees with its rule. Beside it stand its node, and what is at the keys that it used and made.
+fn event_agrees(
     a: Action,
     present: Localities,
     k: Key,
@@ -241,16 +241,13 @@ fn slot_agrees(
 ) -> bool
     ensures { λ r. ⌜ r ≡ agreesBy a present k x t first second ⌝ }
 {
-    if x.kind != Slot::PAST {
-        return true;
-    }
     if !rule_applies(a, present, x, t) {
         return false;
     }
     products_stand(a, k, x, t, first, second)
 }
 
-// Each past record and what it made agree with its rule.
+// Each past record and what it made agree with its rule. A slot that holds no event is passed over before anything is looked up for it.
 pub fn events_agree(s: Script, n: Net) -> bool
     ensures { λ r. ⌜ r ≡ all keyCount (slotAgrees s n) ⌝ }
 {
@@ -258,6 +255,10 @@ pub fn events_agree(s: Script, n: Net) -> bool
     let mut k: u8 = 0;
     while k < 64 {
         let x = n.slots[k as usize];
+        if x.kind != Slot::PAST {
+            k += 1;
+            continue;
+        }
         let node = x.node;
         let p = node_index(node);
         let action = s.nodes[p];
@@ -274,7 +275,7 @@ pub fn events_agree(s: Script, n: Net) -> bool
         let g = index_of(two);
         let at_second = n.slots[g];
         let second = slot_or_free(two, at_second);
-        if !slot_agrees(a, present, Key(k), x, t, first, second) {
+        if !event_agrees(a, present, Key(k), x, t, first, second) {
             return false;
         }
         k += 1;

@@ -7,4 +7,5 @@ pub mod Instance
 pub mod Acts
 pub mod Same
 pub mod View
+pub mod Image
 pub mod Theorems

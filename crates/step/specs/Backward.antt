@@ -1,9 +1,11 @@
 -- The backward step: document 01's answer from check 4 on, and what changes: "what it made becomes free or absent, a consumed tuple is live
 -- again, and it is live as before".
 -- In order: the third slot that changes (`backwardOther`); the localities (`presentBefore`); those touched (`freedAt`); a step that is done
--- (`backwardDone`); any step (`backwardChange`).
+-- (`backwardDone`); any step (`backwardChange`), and the same from the slots that the event names (`backwardBy`); the request that undoes an
+-- event (`undoing`, `undoneBy`, `undone-by`).
 -- Assumes nothing.
 use Prim.Native.Nat.{ℕ}
+use mathlib.Core.Path.{_≡_, ap, _∙_}
 use mathlib.Core.Bool.{Bool, _&&_}
 use Rattle.laws.specs.Choice.{pick}
 use Rattle.names.specs.Names.{none, key, locality, isKey, isLocality}
@@ -23,11 +25,12 @@ use Rattle.rules.specs.Roots.{rolledBy}
 use Rattle.rules.specs.View.{view}
 use Rattle.requests.specs.Checks.{refusal}
 use Rattle.requests.specs.Answers.{backwardChecks}
-use Rattle.requests.specs.Requests.{asked, isDone, answerOf}
+use Rattle.requests.specs.Requests.{asked, answerOf}
 use Rattle.requests.specs.declared.Request.{Request}
 use Rattle.requests.specs.declared.Answer.{Answer}
 use Rattle.requests.specs.declared.Answer.the-variants as Answer
-use Rattle.step.specs.Change.{put, nowhere, refused}
+use Rattle.step.specs.Change.{put, nowhere, stepped}
+use Rattle.step.specs.Tests.{backwardTests}
 use Rattle.step.specs.declared.Put.{Put}
 use Rattle.step.specs.declared.Change.{Change}
 
@@ -67,5 +70,23 @@ undoneAt s n k =
     (slotWith n (slotWith n k .used)) (n .present) k
 
 unfoldable pub backwardChange : Script → Net → Request → Change
-backwardChange s n r =
-    pick (isDone (backwardAnswer s n r)) (undoneAt s n (r .key)) (refused (n .present) (backwardAnswer s n r))
+backwardChange s n r = stepped (n .present) (backwardAnswer s n r) (undoneAt s n (r .key))
+
+-- Whoever holds the net looks up what the event names: the event x at its node a, what stands at the keys that it made (first and second) and
+-- used (t), and whether no past read used what it made (unread). With these it is `backwardChange` of the net (`TestedBackward`,
+-- `backward-looked`).
+unfoldable pub backwardBy : Action → Slot → Slot → Slot → Slot → Bool → Localities → Request → Change
+backwardBy a x first second t unread present r =
+    stepped present (answerOf (refusal (backwardTests a x first second t unread r))) (backwardDone a x first second t present (r .key))
+
+-- the request that undoes an event
+abbrev pub undoing : Key → Request
+undoing k = record { code = 1; key = k; used = key none; first = key none; second = key none; place = locality none }
+
+abbrev pub undoneBy : Action → Slot → Slot → Slot → Slot → Bool → Localities → Key → Change
+undoneBy a x first second t unread present k = backwardBy a x first second t unread present (undoing k)
+
+-- from the request that the code made
+pub undone-by : (a : Action) (x first second t : Slot) (unread : Bool) (present : Localities) (k : Key) (r : Request) → r ≡ undoing k
+    → (c : Change) → c ≡ backwardBy a x first second t unread present r → c ≡ undoneBy a x first second t unread present k
+undone-by a x first second t unread present k r is-r c e = e ∙ ap (backwardBy a x first second t unread present) is-r

@@ -1,7 +1,9 @@
 -- What a step changes, and the net once that is written.
--- In order: a slot at a key (`put`) or none (`nowhere`); a refusal (`refused`); a change written (`putIn`, `applied`).
+-- In order: a slot at a key (`put`) or none (`nowhere`); a refusal (`refused`); a step by its answer (`stepped`, `stepped-yes`, `stepped-no`); a
+-- change written (`putIn`, `applied`).
 -- Assumes nothing.
-use mathlib.Core.Bool.{Bool}
+use mathlib.Core.Path.{_≡_, ap, sym, _∙_}
+use mathlib.Core.Bool.{Bool, true, false}
 use mathlib.Core.List.{List}
 use lib.ListN.{set}
 use Rattle.laws.specs.Choice.{pick}
@@ -12,6 +14,7 @@ use Rattle.names.specs.declared.Localities.{Localities}
 use Rattle.images.specs.Net.{freeSlot}
 use Rattle.images.specs.declared.Slot.{Slot}
 use Rattle.images.specs.declared.Net.{Net}
+use Rattle.requests.specs.Requests.{isDone}
 use Rattle.requests.specs.declared.Answer.{Answer}
 use Rattle.step.specs.declared.Put.{Put}
 use Rattle.step.specs.declared.Change.{Change}
@@ -34,6 +37,19 @@ refused present a =
       other = nowhere;
       present = present;
     }
+
+-- a step by its answer: this change where that is done, and otherwise a refusal
+unfoldable pub stepped : Localities → Answer → Change → Change
+stepped present o c = pick (isDone o) c (refused present o)
+
+module _ (present : Localities) (o a : Answer) (is-a : a ≡ o) (c d : Change) where
+  pub stepped-yes : isDone a ≡ true → d ≡ c → d ≡ stepped present o c
+  unfolding stepped
+  stepped-yes h e = rw (sym (ap isDone is-a) ∙ h) e
+
+  pub stepped-no : isDone a ≡ false → d ≡ refused present a → d ≡ stepped present o c
+  unfolding stepped
+  stepped-no h e = rw (sym (ap isDone is-a) ∙ h) (e ∙ ap (refused present) is-a)
 
 -- the net with a slot put at its key
 unfoldable pub putIn : Net → Put → Net

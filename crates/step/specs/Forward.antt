@@ -1,7 +1,7 @@
 -- The forward step: document 01's answer from check 4 on, and what changes. What the checks are is said in `requests`, and what a rule makes in
 -- `products`.
--- In order: the process once it is past (`pastSlot`); the third slot that changes
--- (`forwardOther`); the localities (`presentAfter`); a step that is done (`forwardDone`); any step (`forwardChange`).
+-- In order: the process once it is past (`pastSlot`); the third slot that changes (`forwardOther`); the localities (`presentAfter`); a step that
+-- is done (`forwardDone`); any step (`forwardChange`), and the same from the slots that the request names (`forwardBy`).
 -- Assumes nothing.
 use Prim.Native.Nat.{ℕ}
 use mathlib.Core.Bool.{Bool, _&&_}
@@ -22,11 +22,12 @@ use Rattle.rules.specs.Roots.{rolledBy}
 use Rattle.rules.specs.View.{view}
 use Rattle.requests.specs.Checks.{refusal}
 use Rattle.requests.specs.Answers.{forwardChecks}
-use Rattle.requests.specs.Requests.{asked, isDone, answerOf}
+use Rattle.requests.specs.Requests.{asked, answerOf}
 use Rattle.requests.specs.declared.Request.{Request}
 use Rattle.requests.specs.declared.Answer.{Answer}
 use Rattle.requests.specs.declared.Answer.the-variants as Answer
-use Rattle.step.specs.Change.{put, nowhere, refused}
+use Rattle.step.specs.Change.{put, nowhere, stepped}
+use Rattle.step.specs.Tests.{forwardTests}
 use Rattle.step.specs.declared.Put.{Put}
 use Rattle.step.specs.declared.Change.{Change}
 
@@ -75,6 +76,11 @@ forwardAnswer s n r = answerOf (refusal (forwardChecks (rolledBy s) (view s n) (
 
 unfoldable pub forwardChange : Script → Net → Request → Change
 forwardChange s n r =
-    pick (isDone (forwardAnswer s n r))
+    stepped (n .present) (forwardAnswer s n r)
     (forwardDone (nodeWith s (slotWith n (r .key) .node)) (slotWith n (r .key)) (slotWith n (r .used)) (n .present) r)
-    (refused (n .present) (forwardAnswer s n r))
+
+-- Whoever holds the net looks up what the request names: the process x at its node a, and what is at the keys used, first and second. With
+-- these it is `forwardChange` of the net (`Tested`, `forward-looked`).
+unfoldable pub forwardBy : Action → Slot → Slot → Slot → Slot → Localities → Request → Change
+forwardBy a x t first second present r =
+    stepped present (answerOf (refusal (forwardTests a x t first second present r))) (forwardDone a x t present r)

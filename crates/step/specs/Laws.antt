@@ -1,6 +1,7 @@
 -- What a step promises, in the words of the theory alone: nothing of how the code finds out shows through.
 -- In order: a refusal changes nothing (`refused-stays`); a forward step is done exactly when its rule allows it (`forward-done`), and gives the
--- net that the rule gives (`forward-gives`); a backward step of an accepted net, by the undoing of its event (`Undoes`, `undo-promised`).
+-- net that the rule gives (`forward-gives`); a backward step of an accepted net, by the undoing of its event (`Undoes`, `undo-promised`), also
+-- from looked-up slots, of an event that may be undone (`undo-by-promised`, `undo-by-found`).
 -- Document 01's row of each refusal is in `requests` (`Checks`, `refused-iff`).
 -- Assumes nothing.
 use Prim.Native.Nat.{ℕ, zero, suc, _<_}
@@ -14,13 +15,17 @@ use borrow.Author.Tests.{eqb-true, ne-eqb}
 use Rattle.laws.specs.Choice.{cases}
 use Rattle.order.specs.KeySets.{_∈_}
 use Rattle.order.specs.Words.{wordOf}
-use Rattle.names.specs.Names.{keyCount, localityCount, none, key, locality}
+use Rattle.names.specs.Names.{keyCount, localityCount}
 use Rattle.names.specs.Localities.{localities}
 use Rattle.names.specs.declared.Key.{Key}
 use Rattle.names.specs.declared.Localities.{Localities}
 use Rattle.images.specs.Script.{scriptInRange}
 use Rattle.images.specs.Shape.{ShapedScript}
+use Rattle.images.specs.Net.{slotWith}
+use Rattle.images.specs.Read.{nodeWith}
+use Rattle.images.specs.declared.Action.{Action}
 use Rattle.images.specs.declared.Script.{Script}
+use Rattle.images.specs.declared.Slot.{Slot}
 use Rattle.images.specs.declared.Net as Images
 use Rattle.nets.specs.Net.{events}
 use Rattle.nets.specs.Accepted.{Accepted}
@@ -35,9 +40,13 @@ use Rattle.requests.specs.Requests.{asked, isDone, number, answerOf}
 use Rattle.requests.specs.declared.Request.{Request}
 use Rattle.requests.specs.declared.Answer.{Answer}
 use Rattle.requests.specs.declared.Answer.the-variants as Answer
-use Rattle.step.specs.Change.{refused, putIn, applied}
+use Rattle.step.specs.Change.{refused, stepped, putIn, applied}
 use Rattle.step.specs.Forward.{forwardAnswer, forwardDone, forwardChange}
-use Rattle.step.specs.Backward.{backwardAnswer, backwardDone, undoneAt, backwardChange}
+use Rattle.step.specs.Backward.{backwardAnswer, backwardDone, undoneAt, backwardChange, undoneBy}
+pub use Rattle.step.specs.Backward.{undoing}
+use Rattle.step.specs.Tests.{noneReads}
+use Rattle.step.specs.TestedBackward.{unread-then, backward-looked}
+use Rattle.step.specs.Looked.{backward-found}
 use Rattle.step.specs.Steps.{forward-is}
 use Rattle.step.specs.Undone.{undo-is, undo-touched, undo-undone}
 use Rattle.step.specs.declared.Change.{Change}
@@ -81,21 +90,17 @@ module _ (s : Script) (w : ShapedScript s) (n : Images.Net) (whole : length (n .
 
   -- and then the net is the rule's: demand 2
   pub forward-gives : isDone (forwardAnswer s n r) ≡ true → view s (applied n (forwardChange s n r)) ≡ forward (view s n) (places (rolledBy s) (view s n) (asked r))
-  unfolding forwardChange forwardAnswer
+  unfolding forwardChange forwardAnswer stepped
   forward-gives h =
       let all : refusal (forwardChecks (rolledBy s) (view s n) (asked r)) ≡ 0 = done-zero (refusal (forwardChecks (rolledBy s) (view s n) (asked r))) h in
       rw h (forward-is s (w .nodes) n whole r range all)
 
   -- otherwise it is as it was
   pub forward-stays : isDone (forwardAnswer s n r) ≡ false → applied n (forwardChange s n r) ≡ n
-  unfolding forwardChange
+  unfolding forwardChange stepped
   forward-stays h = rw h (refused-stays n (forwardAnswer s n r))
 
 -- ---- a backward step
-
--- the request that undoes an event
-abbrev pub undoing : Key → Request
-undoing k = record { code = 1; key = k; used = key none; first = key none; second = key none; place = locality none }
 
 -- What is changed by undoing the event k: where it may be undone, the step is done, and leaves and reports what the theory's undoing of that
 -- one event says; where it may not, the step is refused and changes nothing.
@@ -130,15 +135,15 @@ module _ (s : Script) (w : ShapedScript s) (in-form : scriptInRange s ≡ true) 
       (none-fails (backwardChecks (rolledBy s) (view s n) (asked r)) (u .is-past, (none-given, (can-undo (rolledBy s) refl (view s n) ok (asked r) u, tt))))
 
   changed : Undoable (view s n) (k .0) → backwardChange s n r ≡ undoneAt s n k
-  unfolding backwardChange
+  unfolding backwardChange stepped
   changed u = rw (can u)
 
   answered : isDone (backwardChange s n r .answer) ≡ isDone (backwardAnswer s n r)
-  unfolding backwardChange refused backwardDone
+  unfolding backwardChange stepped refused backwardDone
   answered = cases (isDone (backwardAnswer s n r)) (λ h. rw h) (λ h. rw h h)
 
   stays : isDone (backwardAnswer s n r) ≡ false → applied n (backwardChange s n r) ≡ n
-  unfolding backwardChange
+  unfolding backwardChange stepped
   stays h = rw h (refused-stays n (backwardAnswer s n r))
 
   pub undo-promised : Undoes s n k (backwardChange s n r)
@@ -151,3 +156,21 @@ module _ (s : Script) (w : ShapedScript s) (in-form : scriptInRange s ≡ true) 
         touched-word = λ u. ap (λ (c : Change). c .touched .0) (changed u) ∙ undo-touched s w in-form n whole ok k u;
         stays = λ h. stays (sym answered ∙ h);
       }
+
+  -- an event that may be undone made nothing that was read
+  pub unread-undoable : Undoable (view s n) (k .0) → (noneReads s n (slotWith n k .first) && noneReads s n (slotWith n k .second)) ≡ true
+  unread-undoable u =
+      unread-then s (w .nodes) n r (u .is-past) (can-undo (rolledBy s) refl (view s n) ok (asked r) u)
+
+  -- so whoever knows that it may be undone need not look for readers
+  pub undo-by-promised : Undoable (view s n) (k .0) → Undoes s n k (undoneBy (nodeWith s (slotWith n k .node)) (slotWith n k) (slotWith n (slotWith n k .first)) (slotWith n (slotWith n k .second)) (slotWith n (slotWith n k .used)) true (n .present) k)
+  undo-by-promised u =
+      subst (λ (c : Change). Undoes s n k c) (sym (backward-looked s (w .nodes) n r true (sym (unread-undoable u)))) undo-promised
+
+  -- the same from what was looked up
+  pub undo-by-found : (x : Slot) (a : Action) (f g t : Slot) → x ≡ slotWith n k → a ≡ nodeWith s (x .node) → f ≡ slotWith n (x .first) → g ≡ slotWith n (x .second) → t ≡ slotWith n (x .used)
+      → (c : Change) → c ≡ undoneBy a x f g t true (n .present) k → Undoable (view s n) (k .0) → Undoes s n k c
+  undo-by-found x a f g t is-x is-a is-f is-g is-t c e u =
+      let none : (noneReads s n (x .first) && noneReads s n (x .second)) ≡ true = ap (λ (z : Slot). noneReads s n (z .first) && noneReads s n (z .second)) is-x ∙ unread-undoable u in
+      subst (λ (o : Change). Undoes s n k o)
+      (sym (backward-found s (w .nodes) n r x a f g t true is-x is-a is-f is-g is-t (sym none) c e)) undo-promised

@@ -1,7 +1,6 @@
 -- The checks that the code makes on slots are the checks of `requests`, of the net that the slots are from.
 -- In order: a node of a script, by its number (`node-is`, `no-node`); check by check, of a forward step (`forward-tests`); the answer of a
--- forward step from the slots (`forward-answered`), and what is changed by it (`forward-refused`, `forward-taken`); from what the code's calls
--- answered (`forward-no`, `forward-yes`).
+-- forward step from the slots (`forward-answered`), and what it changes (`forward-looked`).
 -- Assumes nothing.
 use Prim.Native.Nat.{ℕ, _<_, _≤_}
 use mathlib.Core.Path.{_≡_, refl, ap, ap₂, sym, _∙_, subst}
@@ -39,13 +38,12 @@ use Rattle.requests.specs.Checks.{refusal, check}
 use Rattle.requests.specs.Checks as C
 use Rattle.requests.specs.Answers as A
 use Rattle.requests.specs.Answers.{asNeeded, placesOf, forwardChecks}
-use Rattle.requests.specs.Requests.{asked, isDone, number, answerOf}
+use Rattle.requests.specs.Requests.{asked, answerOf}
 use Rattle.requests.specs.declared.Request.{Request}
 use Rattle.requests.specs.declared.Answer.{Answer}
-use Rattle.step.specs.Change.{refused}
+use Rattle.step.specs.Change.{stepped}
 use Rattle.step.specs.Tests.{placesBy, tupleThere, templateMet, secondFresh, placeFresh, namesFresh, forwardTests}
-use Rattle.step.specs.Forward.{forwardAnswer, forwardDone, forwardChange}
-use Rattle.step.specs.declared.Change.{Change}
+use Rattle.step.specs.Forward.{forwardAnswer, forwardDone, forwardChange, forwardBy}
 
 -- ---- a node, by its number
 
@@ -161,39 +159,10 @@ module _ (s : Script) (nodes : length (s .nodes) ≡ nodeCount) (n : Images.Net)
 
   -- ---- the forward step, from the slots that the code looks at
 
-  abbrev answered : Answer
-  answered = answerOf (refusal (forwardTests (a s n r) (x s n r) (t s n r) (slotWith n (r .first)) (slotWith n (r .second)) (n .present) r))
-
-  pub forward-answered : answered ≡ forwardAnswer s n r
+  pub forward-answered : answerOf (refusal (forwardTests (a s n r) (x s n r) (t s n r) (slotWith n (r .first)) (slotWith n (r .second)) (n .present) r)) ≡ forwardAnswer s n r
   unfolding forwardAnswer
   forward-answered = ap answerOf forward-tests
 
-  pub forward-refused : isDone answered ≡ false → refused (n .present) answered ≡ forwardChange s n r
-  unfolding forwardChange
-  forward-refused h =
-      let no : isDone (forwardAnswer s n r) ≡ false = ap isDone (sym forward-answered) ∙ h in
-      rw no (ap (refused (n .present)) forward-answered)
-
-  pub forward-taken : isDone answered ≡ true → forwardDone (a s n r) (x s n r) (t s n r) (n .present) r ≡ forwardChange s n r
-  unfolding forwardChange
-  forward-taken h =
-      let yes : isDone (forwardAnswer s n r) ≡ true = ap isDone (sym forward-answered) ∙ h in
-      rw yes
-
-  -- from what the code's calls answered
-  module _ (x′ : Image.Slot) (a′ : Action) (t′ f g : Image.Slot) (o : Answer)
-      (is-x : x′ ≡ slotWith n (r .key)) (is-a : a′ ≡ nodeWith s (x′ .node)) (is-t : t′ ≡ slotWith n (r .used))
-      (is-f : f ≡ slotWith n (r .first)) (is-g : g ≡ slotWith n (r .second))
-      (is-o : o ≡ answerOf (refusal (forwardTests a′ x′ t′ f g (n .present) r))) where
-    the-node : a′ ≡ a s n r
-    the-node = is-a ∙ ap (λ (z : Image.Slot). nodeWith s (z .node)) is-x
-
-    the-answer : o ≡ answered
-    the-answer = is-o ∙ (λ i. answerOf (refusal (forwardTests (the-node i) (is-x i) (is-t i) (is-f i) (is-g i) (n .present) r)))
-
-    pub forward-no : isDone o ≡ false → (c : Change) → c ≡ refused (n .present) o → c ≡ forwardChange s n r
-    forward-no h c e = e ∙ ap (refused (n .present)) the-answer ∙ forward-refused (ap isDone (sym the-answer) ∙ h)
-
-    pub forward-yes : isDone o ≡ true → (c : Change) → c ≡ forwardDone a′ x′ t′ (n .present) r → c ≡ forwardChange s n r
-    forward-yes h c e =
-        e ∙ (λ i. forwardDone (the-node i) (is-x i) (is-t i) (n .present) r) ∙ forward-taken (ap isDone (sym the-answer) ∙ h)
+  pub forward-looked : forwardBy (nodeWith s (slotWith n (r .key) .node)) (slotWith n (r .key)) (slotWith n (r .used)) (slotWith n (r .first)) (slotWith n (r .second)) (n .present) r ≡ forwardChange s n r
+  unfolding forwardBy forwardChange
+  forward-looked = ap (λ (o : Answer). stepped (n .present) o (forwardDone (a s n r) (x s n r) (t s n r) (n .present) r)) forward-answered

@@ -1,6 +1,7 @@
 -- The checks that the code makes of a backward step are those of `requests`, of the net that the slots are from.
--- In order: who read a key (`reads-is`, `unread-is`); what stands at a key that was made (`stays-is`); whether an event may be undone
--- (`undo-is`); the checks together (`backward-tests`); from what the code's calls answered (`backward-no`, `backward-yes`).
+-- In order: who read a key (`reads-is`, `unread-is`); what stands at a key that was made (`stays`); whether an event may be undone (`there`,
+-- `back`); the checks together (`backward-tests`); an event that may be undone made nothing that was read (`unread-then`); the answer of a
+-- backward step from the slots (`backward-answered`), and what it changes (`backward-looked`).
 -- Assumes nothing.
 use Prim.Native.Nat.{ℕ, _<_}
 use mathlib.Core.Path.{_≡_, refl, ap, ap₂, sym, _∙_, subst}
@@ -35,14 +36,13 @@ use Rattle.requests.specs.Checks.{refusal, check}
 use Rattle.requests.specs.Checks as C
 use Rattle.requests.specs.Answers as A
 use Rattle.requests.specs.Answers.{noPlaces, backwardChecks}
-use Rattle.requests.specs.Requests.{asked, isDone, answerOf}
+use Rattle.requests.specs.Requests.{asked, answerOf}
 use Rattle.requests.specs.declared.Request.{Request}
 use Rattle.requests.specs.declared.Answer.{Answer}
-use Rattle.step.specs.Change.{refused}
+use Rattle.step.specs.Change.{stepped}
 use Rattle.step.specs.Tests.{madeLive, readLive, readsKey, noneReads, canUndo, backwardTests}
 use Rattle.step.specs.Tested.{kind-is}
-use Rattle.step.specs.Backward.{backwardAnswer, backwardDone, backwardChange}
-use Rattle.step.specs.declared.Change.{Change}
+use Rattle.step.specs.Backward.{backwardAnswer, undoneAt, backwardChange, backwardBy}
 
 module _ (s : Script) (nodes : length (s .nodes) ≡ nodeCount) (n : Images.Net) where
   abbrev W : N.Net (rulesOf s)
@@ -153,8 +153,12 @@ module _ (s : Script) (nodes : length (s .nodes) ≡ nodeCount) (n : Images.Net)
     past-check : eqb (x .kind) 2 ≡ isPast (event .kind)
     past-check = sym (ap (λ (z : N.Slot (rulesOf s)). isPast (z .kind)) slot-is ∙ past-is (x .kind))
 
+    -- nobody read what the event made
+    abbrev unread : Bool
+    unread = noneReads s n (x .first) && noneReads s n (x .second)
+
     tested : Bool
-    tested = canUndo s n a x (slotWith n (x .first)) (slotWith n (x .second)) (slotWith n (x .used))
+    tested = canUndo a x (slotWith n (x .first)) (slotWith n (x .second)) (slotWith n (x .used)) unread
 
     -- a key that the event made is its first or its second
     made-stay : (k : ℕ) → makes W (r .key .0) k ≡ true → (isKey (x .first) ≡ true → stays (x .first .0) ≡ true) → (isKey (x .second) ≡ true → stays (x .second .0) ≡ true) → stays k ≡ true
@@ -228,55 +232,27 @@ module _ (s : Script) (nodes : length (s .nodes) ≡ nodeCount) (n : Images.Net)
     unfolding refusal
     three b c d e f p q = cases c (λ t. rw (p, t, q t)) (λ t. rw (p, t))
 
-    pub backward-tests : refusal (backwardTests s n a x (slotWith n (x .first)) (slotWith n (x .second)) (slotWith n (x .used)) r) ≡ refusal (backwardChecks (rolledBy s) W (asked r))
+    pub backward-tests : refusal (backwardTests a x (slotWith n (x .first)) (slotWith n (x .second)) (slotWith n (x .used)) unread r) ≡ refusal (backwardChecks (rolledBy s) W (asked r))
     unfolding backwardTests backwardChecks tested
     backward-tests =
         three _ _ _ _ _ past-check (λ past. agree tested (A.canUndo (rolledBy s) W (asked r)) there (back past))
 
-    -- ---- from what the code's calls answered
+    -- an event that may be undone made nothing that was read
+    pub unread-then : isPast (event .kind) ≡ true → A.canUndo (rolledBy s) W (asked r) ≡ true → (noneReads s n (slotWith n (r .key) .first) && noneReads s n (slotWith n (r .key) .second)) ≡ true
+    unfolding tested canUndo
+    unread-then past h =
+        and-right (readLive (a .kind) (x .used) (slotWith n (x .used))) _
+        (and-right (madeLive (x .second) (slotWith n (x .second))) _ (and-right (madeLive (x .first) (slotWith n (x .first))) _ (back past h)))
 
-    abbrev answered : Answer
-    answered =
-        answerOf (refusal (backwardTests s n a x (slotWith n (x .first)) (slotWith n (x .second)) (slotWith n (x .used)) r))
+    -- ---- the backward step, from the slots that the code looks at
 
-    backward-answered : answered ≡ backwardAnswer s n r
+    pub backward-answered : answerOf (refusal (backwardTests a x (slotWith n (x .first)) (slotWith n (x .second)) (slotWith n (x .used)) unread r)) ≡ backwardAnswer s n r
     unfolding backwardAnswer
     backward-answered = ap answerOf backward-tests
 
-    backward-refused : isDone answered ≡ false → refused (n .present) answered ≡ backwardChange s n r
-    unfolding backwardChange
-    backward-refused h =
-        let no : isDone (backwardAnswer s n r) ≡ false = ap isDone (sym backward-answered) ∙ h in
-        rw no (ap (refused (n .present)) backward-answered)
-
-    backward-taken : isDone answered ≡ true → backwardDone a x (slotWith n (x .first)) (slotWith n (x .second)) (slotWith n (x .used)) (n .present) (r .key) ≡ backwardChange s n r
-    unfolding backwardChange
-    backward-taken h =
-        let yes : isDone (backwardAnswer s n r) ≡ true = ap isDone (sym backward-answered) ∙ h in
-        rw yes
-
-    module _ (x′ : Image.Slot) (a′ : Action) (f g t′ : Image.Slot) (o : Answer)
-        (is-x : x′ ≡ x) (is-a : a′ ≡ nodeWith s (x′ .node)) (is-f : f ≡ slotWith n (x′ .first)) (is-g : g ≡ slotWith n (x′ .second))
-        (is-t : t′ ≡ slotWith n (x′ .used)) (is-o : o ≡ answerOf (refusal (backwardTests s n a′ x′ f g t′ r))) where
-      the-node : a′ ≡ a
-      the-node = is-a ∙ ap (λ (z : Image.Slot). nodeWith s (z .node)) is-x
-
-      the-first : f ≡ slotWith n (x .first)
-      the-first = is-f ∙ ap (λ (z : Image.Slot). slotWith n (z .first)) is-x
-
-      the-second : g ≡ slotWith n (x .second)
-      the-second = is-g ∙ ap (λ (z : Image.Slot). slotWith n (z .second)) is-x
-
-      the-tuple : t′ ≡ slotWith n (x .used)
-      the-tuple = is-t ∙ ap (λ (z : Image.Slot). slotWith n (z .used)) is-x
-
-      the-answer : o ≡ answered
-      the-answer = is-o ∙ (λ i. answerOf (refusal (backwardTests s n (the-node i) (is-x i) (the-first i) (the-second i) (the-tuple i) r)))
-
-      pub backward-no : isDone o ≡ false → (c : Change) → c ≡ refused (n .present) o → c ≡ backwardChange s n r
-      backward-no h c e = e ∙ ap (refused (n .present)) the-answer ∙ backward-refused (ap isDone (sym the-answer) ∙ h)
-
-      pub backward-yes : isDone o ≡ true → (c : Change) → c ≡ backwardDone a′ x′ f g t′ (n .present) (r .key) → c ≡ backwardChange s n r
-      backward-yes h c e =
-          e ∙ (λ i. backwardDone (the-node i) (is-x i) (the-first i) (the-second i) (the-tuple i) (n .present) (r .key)) ∙
-          backward-taken (ap isDone (sym the-answer) ∙ h)
+    pub backward-looked : (unread : Bool) → unread ≡ (noneReads s n (slotWith n (r .key) .first) && noneReads s n (slotWith n (r .key) .second))
+        → backwardBy (nodeWith s (slotWith n (r .key) .node)) (slotWith n (r .key)) (slotWith n (slotWith n (r .key) .first)) (slotWith n (slotWith n (r .key) .second)) (slotWith n (slotWith n (r .key) .used)) unread (n .present) r ≡ backwardChange s n r
+    unfolding backwardBy backwardChange
+    backward-looked b e =
+        ap (λ (q : Bool). stepped (n .present) (answerOf (refusal (backwardTests a x (slotWith n (x .first)) (slotWith n (x .second)) (slotWith n (x .used)) q r))) (undoneAt s n (r .key))) e ∙
+        ap (λ (o : Answer). stepped (n .present) o (undoneAt s n (r .key))) backward-answered

@@ -1,24 +1,25 @@
 -- The checks as the code makes them, on the slots that a request names. Nothing here must be believed: `Tested` proves them to be the checks
 -- of `requests`, of the net that the slots are from.
 -- In order: `checked`; each test of a forward step, and these in their order (`forwardTests`); whether an event may be undone (`canUndo`), and the
--- checks of a backward step (`backwardTests`); what an answer of a check says (`holds-true`, `fails-false`).
+-- checks of a backward step (`backwardTests`); who read either of two keys (`readsEither`); what an answer of a check says (`holds-true`,
+-- `fails-false`).
 -- Assumes nothing.
 use Prim.Native.Nat.{ℕ}
 use mathlib.Core.Bool.{Bool, true, false, _&&_, _||_, not}
-use mathlib.Core.Path.{_≡_, refl, ap, _∙_}
+use mathlib.Core.Path.{_≡_, refl, ap}
 use mathlib.Core.List.{List, [], _∷_}
 use native.Mathlib.Omega.{arith}
 use lib.Dec.{eqb, ltb}
-use Rattle.laws.specs.Choice.{pick, cases, _⇒_}
+use Rattle.laws.specs.Choice.{pick, _⇒_}
 use Rattle.laws.specs.Checks.{all}
 use Rattle.names.specs.Names.{keyCount, locality, isKey, isNode}
 use Rattle.names.specs.declared.Key.{Key}
+use Rattle.names.specs.declared.Node.{Node}
 use Rattle.names.specs.Localities.{holds}
 use Rattle.names.specs.declared.Locality.{Locality}
 use Rattle.names.specs.declared.Localities.{Localities}
 use Rattle.images.specs.Net.{isFree, slotAt}
-use Rattle.images.specs.Read.{nodeIndex, nodeWith}
-use Rattle.images.specs.Script.{actionAt}
+use Rattle.images.specs.Read.{nodeWith}
 use Rattle.images.specs.declared.Action.{Action}
 use Rattle.images.specs.declared.Datum.{Datum}
 use Rattle.images.specs.declared.Script.{Script}
@@ -82,29 +83,32 @@ readLive kind used t = isRead kind ⇒ (isKey used ⇒ eqb (t .kind) 3)
 unfoldable pub readsKey : Script → Slot → Key → Bool
 readsKey s x k = eqb (x .kind) 2 && (eqb (x .used .0) (k .0) && isRead (nodeWith s (x .node) .kind))
 
--- the same from the kind of what stands at its node's place
-unfoldable pub readsBy : Slot → ℕ → Key → Bool
-readsBy x act k = eqb (x .kind) 2 && (eqb (x .used .0) (k .0) && (isNode (x .node) && isRead act))
-
-pub reads-looked : (s : Script) (x : Slot) (k : Key) (p : ℕ) → p ≡ nodeIndex (x .node) → readsBy x (actionAt s p .kind) k ≡ readsKey s x k
-unfolding readsBy readsKey
-reads-looked s x k p e =
-    ap (λ (i : ℕ). eqb (x .kind) 2 && (eqb (x .used .0) (k .0) && (isNode (x .node) && isRead (actionAt s i .kind)))) e ∙
-    ap (λ (b : Bool). eqb (x .kind) 2 && (eqb (x .used .0) (k .0) && b)) (cases (isNode (x .node)) (λ t. rw t) (λ t. rw t))
-
+-- no slot of the net holds a past read of the key
 unfoldable pub noneReads : Script → Net → Key → Bool
 noneReads s n k = isKey k ⇒ all keyCount (λ f. not (readsKey s (slotAt n f) k))
 
-unfoldable pub canUndo : Script → Net → Action → Slot → Slot → Slot → Slot → Bool
-canUndo s n a x first second t =
-    madeLive (x .first) first &&
-    (madeLive (x .second) second &&
-    (readLive (a .kind) (x .used) t && (noneReads s n (x .first) && noneReads s n (x .second))))
+-- the event x at the node a; what stands at the keys that it made and used; whether no past read used what it made
+unfoldable pub canUndo : Action → Slot → Slot → Slot → Slot → Bool → Bool
+canUndo a x first second t unread =
+    madeLive (x .first) first && (madeLive (x .second) second && (readLive (a .kind) (x .used) t && unread))
 
 -- checks 4, 6 and 12, of the event x at the node a
-unfoldable pub backwardTests : Script → Net → Action → Slot → Slot → Slot → Slot → Request → List C.Check
-backwardTests s n a x first second t r =
-    check 4 (eqb (x .kind) 2) ∷ check 6 (noPlaces (asked r)) ∷ check 12 (canUndo s n a x first second t) ∷ []
+unfoldable pub backwardTests : Action → Slot → Slot → Slot → Slot → Bool → Request → List C.Check
+backwardTests a x first second t unread r =
+    check 4 (eqb (x .kind) 2) ∷ check 6 (noPlaces (asked r)) ∷ check 12 (canUndo a x first second t unread) ∷ []
+
+-- ---- past reads of either of two keys, in one pass over the slots
+
+-- the key is the one or the other
+unfoldable pub isEither : Key → Key → Key → Bool
+isEither k one two = isKey k && (eqb (k .0) (one .0) || eqb (k .0) (two .0))
+
+-- there is such a node, and it reads; act is the kind of what stands at its place
+unfoldable pub readsAt : Node → ℕ → Bool
+readsAt p act = isNode p && isRead act
+
+unfoldable pub readsEither : Script → Slot → Key → Key → Bool
+readsEither s x one two = eqb (x .kind) 2 && (isEither (x .used) one two && isRead (nodeWith s (x .node) .kind))
 
 -- ---- what an answer of a check says
 

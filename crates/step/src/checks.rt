@@ -26,7 +26,7 @@ use requests::Request;
 use requests::number;
 use rules::is_makeable;
 
-fn told(b: bool) -> Check
+pub fn told(b: bool) -> Check
     ensures { λ r. ⌜ r ≡ checked b ⌝ }
 {
     if b {

@@ -3,7 +3,7 @@ ghost use mathlib.Core.Path.{_≡_};
 ghost use Rattle.requests.specs.Checks.{refusal};
 ghost use Rattle.requests.specs.Requests.{answerOf};
 ghost use Rattle.step.specs.Tests.{forwardTests};
-ghost use Rattle.step.specs.Forward.{pastSlot, forwardOther, presentAfter, forwardDone, forwardChange};
+ghost use Rattle.step.specs.Forward.{pastSlot, forwardOther, presentAfter, forwardDone, forwardChange, forwardBy};
 use super::Change;
 use super::Check;
 use super::Put;
@@ -22,8 +22,10 @@ use images::Action;
 use images::Net;
 use images::Script;
 use images::Slot;
-use images::net_image::slot_with;
-use images::script_image::node_with;
+use images::net_image::index_of;
+use images::net_image::slot_or_free;
+use images::script_image::node_index;
+use images::script_image::node_or_nil;
 use names::Localities;
 use names::Locality;
 use products::Readiness;
@@ -158,24 +160,50 @@ fn forward_done(a: Action, x: Slot, t: Slot, present: Localities, r: Request) ->
     }
 }
 
-// Any script, net and request in range: document 01's answer from check 4 on, and what the step changes.
-pub fn forward(s: Script, n: Net, r: Request) -> Change
-    ensures { λ o. ⌜ o ≡ forwardChange s n r ⌝ }
+// The step of the process x at its node a, with what is at the keys that the request uses and makes: whoever holds a net looks these up, since
+// a net that is passed on is copied.
+pub fn forward_by(
+    a: Action,
+    x: Slot,
+    t: Slot,
+    first: Slot,
+    second: Slot,
+    present: Localities,
+    r: Request,
+) -> Change
+    ensures { λ o. ⌜ o ≡ forwardBy a x t first second present r ⌝ }
 {
-    let key = r.key;
-    let x = slot_with(n, key);
-    let node = x.node;
-    let a = node_with(s, node);
-    let used = r.used;
-    let t = slot_with(n, used);
-    let one = r.first;
-    let first = slot_with(n, one);
-    let two = r.second;
-    let second = slot_with(n, two);
-    let present = n.present;
     let answer = forward_answer(a, x, t, first, second, present, r);
     let Check::Holds = all_hold(answer) else {
         return refused(present, answer);
     };
     forward_done(a, x, t, present, r)
+}
+
+// Any script, net and request in range: document 01's answer from check 4 on, and what the step changes.
+pub fn forward(s: Script, n: Net, r: Request) -> Change
+    ensures { λ o. ⌜ o ≡ forwardChange s n r ⌝ }
+{
+    let key = r.key;
+    let i = index_of(key);
+    let at_key = n.slots[i];
+    let x = slot_or_free(key, at_key);
+    let node = x.node;
+    let p = node_index(node);
+    let action = s.nodes[p];
+    let a = node_or_nil(node, action);
+    let used = r.used;
+    let u = index_of(used);
+    let at_used = n.slots[u];
+    let t = slot_or_free(used, at_used);
+    let one = r.first;
+    let f = index_of(one);
+    let at_first = n.slots[f];
+    let first = slot_or_free(one, at_first);
+    let two = r.second;
+    let g = index_of(two);
+    let at_second = n.slots[g];
+    let second = slot_or_free(two, at_second);
+    let present = n.present;
+    forward_by(a, x, t, first, second, present, r)
 }

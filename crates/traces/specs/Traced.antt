@@ -309,7 +309,7 @@ module _ (s : Script) (n : Images.Net) where
       ap (λ (b : Bool). events (view s n) e && b) (row-is e f l m) ∙ row-depends (view s n) good e f
 
   -- an event is a member of the events' word below the number of keys
-  event-in : (k : ℕ) → (ltb k keyCount && isIn (eventsOf n) (key k)) ≡ events (view s n) k
+  pub event-in : (k : ℕ) → (ltb k keyCount && isIn (eventsOf n) (key k)) ≡ events (view s n) k
   event-in k =
       cases (ltb k keyCount) (λ p. rw p (events-in s n k (ltb-true k keyCount p)))
       (λ p. rw p (sym (ap (λ (x : Slot (rulesOf s)). isPast (x .kind)) (beyond s n k (ltb-false k keyCount p)))))

@@ -19,10 +19,10 @@ use Rattle.accept.proofs.whole.localities_right.Lts as lts
 use Rattle.accept.proofs.whole.locality_right.Reads as locality-right-reads
 
 abbrev Inv-loop : tie.InvT-loop
-Inv-loop made present l₀ l = (8 ≤ l) × (l ≤ 32) × ((i : ℕ) → i < l → (makeable i ⇒ localityRight present made (locality i)) ≡ true)
+Inv-loop present made l₀ l = (8 ≤ l) × (l ≤ 32) × ((i : ℕ) → i < l → (makeable i ⇒ localityRight present made (locality i)) ≡ true)
 
 abbrev μ-loop : tie.MeasureT-loop
-μ-loop made present l₀ l = 32 - l
+μ-loop present made l₀ l = 32 - l
 
 loop-holds : tie.Need-loop-holds Inv-loop μ-loop
 loop-holds c = (search needs, search needs, λ i h. rw (below-made i h))

@@ -1,0 +1,5 @@
+-- Rollback: what it gives (`Rollback`), how the code undoes a closed set of events (`Turns`, `Undone`), and that its checks are document 01's (`Checked`).
+pub mod Rollback
+pub mod Turns
+pub mod Undone
+pub mod Checked
