@@ -1,7 +1,8 @@
 -- The code of a call against its definition: what each part of it knows.
--- In order: which verdict accepts (`accepts`); images that have their form (`Formed`), and a call on them (`replyRead`); a request that is read is in range
--- (`read-in-range`), and one that is not is refused (`request-bad`), one that is read served (`request-good`); a net that is not accepted
--- (`verdict-bad`) and one that is (`verdict-good`, `verdict-reply`); images without their form (`script-bad`, `net-bad`) and with it (`images-formed`, `images-good`).
+-- In order: which verdict accepts (`accepts`), and the answer of two forms and of acceptance (`answerBy`); what a contract says of a reply (`Replies`); a
+-- request that is read is in range (`read-in-range`), one that is not is refused (`request-bad`), one that is read is served (`request-good`); reading answers
+-- only what is in range (`script-range`, `net-range`); the verdict is acceptance (`accepts-tested`), so the answer is the definition's (`taken-range`, `taken-is`);
+-- images whose answer is done are good (`images-good`, `good-images`); the call (`call-refused`, `call-good`, `call-done`).
 -- Assumes nothing.
 use Prim.Native.Nat.{ℕ, _<_}
 use mathlib.Core.Path.{_≡_, refl, sym, ap, _∙_, subst}
@@ -10,7 +11,7 @@ use mathlib.Core.List.{List}
 use lib.Dec.{eqb}
 use lib.ListN.{length, getD}
 use borrow.Author.Tests.{eqb-true}
-use Rattle.laws.specs.Choice.{pick, cases, clash, fails, and-left, and-right, and-both}
+use Rattle.laws.specs.Choice.{pick, cases, clash, agree, and-left, and-right}
 use Rattle.laws.specs.Checks.{all, all-of, all-at}
 use Rattle.laws.specs.Lists.{getD-tab}
 use Rattle.laws.specs.Words.{wordAt}
@@ -35,14 +36,16 @@ use Rattle.accept.specs.Laws.{accepted-verdict}
 use Rattle.accept.specs.declared.Verdict.{Verdict}
 use Rattle.accept.specs.declared.Verdict.the-variants as Verdict
 use Rattle.requests.specs.Answers.{inRange}
-use Rattle.requests.specs.Requests.{asked, requestOf, readRequest}
+use Rattle.requests.specs.Requests.{asked, isDone, requestOf, readRequest}
 use Rattle.requests.specs.declared.Request.{Request}
 use Rattle.requests.specs.declared.RequestRead.{RequestRead}
 use Rattle.requests.specs.declared.RequestRead.the-variants as RequestRead
+use Rattle.requests.specs.declared.Answer.{Answer}
 use Rattle.requests.specs.declared.Answer.the-variants as Answer
 use Rattle.rollback.specs.Rollback.{Good}
 use Rattle.rollback.specs.declared.Outcome.{Outcome}
-use Rattle.machine.specs.Calls.{isGood, scriptIn, netIn, goodScript, goodNet, served, Reply, told, refusal, refusedWith, afterwards, replyTo, reply}
+use Rattle.machine.specs.Calls.{isGood, scriptIn, netIn, goodScript, goodNet, imageAnswer, takenApart, served, Reply, told, refusal, afterwards, replyTo, reply}
+use Rattle.machine.specs.declared.Taken.{Taken}
 use Rattle.machine.specs.declared.Told.{Told}
 
 abbrev pub accepts : Verdict → Bool
@@ -54,15 +57,9 @@ accepts Verdict.WrongLocality = false
 accepts Verdict.WrongRoot = false
 accepts Verdict.Cycle = false
 
--- both images have their form, and the net is as long as one is
-pub record Formed (s : Script) (n : Net) (net : List ℕ) : Type 0 where
-  pub script : scriptInRange s ≡ true
-  pub net-good : netInRange n ≡ true
-  pub long : length net ≡ 3600
-
--- a call on images that have their form
-unfoldable pub replyRead : Script → Net → List ℕ → List ℕ → Reply
-replyRead s n net q = pick (isAccepted s (view s n)) (replyTo s n net (readRequest q)) (refusedWith Answer.BadNet net)
+-- the answer of both forms, and of whether the net is accepted
+unfoldable pub answerBy : Form → Form → Bool → Answer
+answerBy f g a = pick (isGood f) (pick (isGood g && a) Answer.Done Answer.BadNet) Answer.BadScript
 
 -- what a call's contract says of its result and of the lent bytes after it
 abbrev pub Replies : Told → List ℕ → Reply → Type 0
@@ -105,52 +102,7 @@ module _ (s : Script) (n : Net) (net q : List ℕ) where
       subst (λ (a : RequestRead). Replies t last (replyTo s n net a)) e
       (is-t ∙ ap told is-o, is-last ∙ ap (λ (z : Outcome). afterwards z net) is-o)
 
--- ---- acceptance
-
-module _ (s : Script) (n : Net) (v : ShapedNet n) (net : List ℕ) (f : Formed s n net) where
-  accepts-is : (a : Verdict) → accepts a ≡ true → a ≡ Verdict.Accepted
-  accepts-is Verdict.Accepted h = refl
-  accepts-is Verdict.Disagrees h = absurd (false≢true h)
-  accepts-is Verdict.Twice h = absurd (false≢true h)
-  accepts-is Verdict.WrongTuple h = absurd (false≢true h)
-  accepts-is Verdict.WrongLocality h = absurd (false≢true h)
-  accepts-is Verdict.WrongRoot h = absurd (false≢true h)
-  accepts-is Verdict.Cycle h = absurd (false≢true h)
-
-  -- the verdict is Accepted exactly where the net is
-  pub verdict-good : accepts (verdictOf s n) ≡ true → Good s n
-  verdict-good h =
-      record {
-        script = f .script;
-        net = f .net-good;
-        accepted = accepted-verdict s n v (f .net-good) .0 (accepts-is (verdictOf s n) h);
-      }
-
-  tested : accepts (verdictOf s n) ≡ true → isAccepted s (view s n) ≡ true
-  tested h = accepted-is-tested s (view s n) (beyond s n) .1 (verdict-good h .accepted)
-
-  not-tested : accepts (verdictOf s n) ≡ false → isAccepted s (view s n) ≡ false
-  not-tested h =
-      fails (isAccepted s (view s n))
-      (λ a.
-      clash (accepts (verdictOf s n))
-      (ap accepts (accepted-verdict s n v (f .net-good) .1 (accepted-is-tested s (view s n) (beyond s n) .0 a))) h)
-
-  pub verdict-bad : (q : List ℕ) → accepts (verdictOf s n) ≡ false → (t : Told) → t ≡ refusal Answer.BadNet → Replies t net (replyRead s n net q)
-  unfolding replyRead
-  verdict-bad q h t is = subst (λ (b : Bool). Replies t net (pick b (replyTo s n net (readRequest q)) (refusedWith Answer.BadNet net))) (sym (not-tested h)) (is, refl)
-
-  pub verdict-reply : (q : List ℕ) → accepts (verdictOf s n) ≡ true → (t : Told) (last : List ℕ) → Replies t last (replyTo s n net (readRequest q)) → Replies t last (replyRead s n net q)
-  unfolding replyRead
-  verdict-reply q h t last is = subst (λ (b : Bool). Replies t last (pick b (replyTo s n net (readRequest q)) (refusedWith Answer.BadNet net))) (sym (tested h)) is
-
 -- ---- the images
-
-good-form : (f : Form) → f ≡ Form.Good → isGood f ≡ true
-good-form f e = ap isGood e
-
-bad-form : (f : Form) → f ≡ Form.Bad → isGood f ≡ false
-bad-form f e = ap isGood e
 
 formed-range : (b : List ℕ) → scriptFormed b ≡ true → scriptInRange (scriptOf b) ≡ true
 unfolding scriptFormed scriptOf nodesFormed actionFormed scriptInRange
@@ -189,43 +141,76 @@ net-range b there =
     let (t, read) = net-formed b there in
     ap (λ (z : NetRead). netInRange (z .net)) read ∙ formed-net-range b t
 
-net-long : (b : List ℕ) → isGood (readNet b .form) ≡ true → length b ≡ 3600
-unfolding netFormed
-net-long b there = eqb-true (length b) 3600 (and-left (eqb (length b) 3600) _ (net-formed b there .0))
+-- ---- acceptance
 
-module _ (script net q : List ℕ) (sr : ScriptRead) (is-s : sr ≡ readScript script) where
-  pub script-bad : sr .form ≡ Form.Bad → (t : Told) → t ≡ refusal Answer.BadScript → Replies t net (reply script net q)
+accepts-is : (a : Verdict) → accepts a ≡ true → a ≡ Verdict.Accepted
+accepts-is Verdict.Accepted h = refl
+accepts-is Verdict.Disagrees h = absurd (false≢true h)
+accepts-is Verdict.Twice h = absurd (false≢true h)
+accepts-is Verdict.WrongTuple h = absurd (false≢true h)
+accepts-is Verdict.WrongLocality h = absurd (false≢true h)
+accepts-is Verdict.WrongRoot h = absurd (false≢true h)
+accepts-is Verdict.Cycle h = absurd (false≢true h)
+
+-- the verdict on a net in range accepts exactly where the net is accepted
+pub accepts-tested : (s : Script) (n : Net) → ShapedNet n → netInRange n ≡ true → accepts (verdictOf s n) ≡ isAccepted s (view s n)
+accepts-tested s n v range =
+    let tests = accepted-is-tested s (view s n) (beyond s n) in
+    let says = accepted-verdict s n v range in
+    agree (accepts (verdictOf s n)) (isAccepted s (view s n)) (λ h. tests .1 (says .0 (accepts-is (verdictOf s n) h))) (λ h. ap accepts (says .1 (tests .0 h)))
+
+module _ (script net : List ℕ) (sr : ScriptRead) (is-s : sr ≡ readScript script) (nr : NetRead) (is-n : nr ≡ readNet net) where
+  pub taken-range : isGood (nr .form) ≡ true → netInRange (nr .net) ≡ true
+  taken-range g =
+      let there : isGood (readNet net .form) ≡ true = ap (λ (z : NetRead). isGood (z .form)) (sym is-n) ∙ g in
+      ap (λ (z : NetRead). netInRange (z .net)) is-n ∙ net-range net there
+
+  -- the code's answer is the definition's
+  pub taken-is : (t : Taken) → t .answer ≡ answerBy (sr .form) (nr .form) (isAccepted (sr .script) (view (sr .script) (nr .net))) → t .script ≡ sr .script
+      → t .net ≡ nr .net → t ≡ takenApart script net
+  unfolding answerBy imageAnswer goodNet
+  taken-is t is-a is-script is-net =
+      let answers : t .answer ≡ imageAnswer script net = is-a ∙ (λ i. answerBy (is-s i .form) (is-n i .form) (isAccepted (is-s i .script) (view (is-s i .script) (is-n i .net)))) in
+      let scripts : t .script ≡ scriptIn script = is-script ∙ ap (λ (z : ScriptRead). z .script) is-s in
+      let nets : t .net ≡ netIn net = is-net ∙ ap (λ (z : NetRead). z .net) is-n in
+      λ i. record { answer = answers i; script = scripts i; net = nets i }
+
+-- ---- images that are good
+
+-- an image's answer is done exactly where both are good
+pub images-good : (script net : List ℕ) → isDone (imageAnswer script net) ≡ true → (goodScript script ≡ true) × (goodNet (scriptIn script) net ≡ true)
+unfolding imageAnswer
+images-good script net h =
+    cases (goodScript script)
+    (λ p. cases (goodNet (scriptIn script) net) (λ q. (p, q)) (λ q. absurd (false≢true (rw (p, q) at h))))
+    (λ p. absurd (false≢true (rw p at h)))
+
+pub good-images : (script net : List ℕ) → isDone (imageAnswer script net) ≡ true → Good (scriptIn script) (netIn net)
+unfolding goodNet
+good-images script net h =
+    let (p, q) = images-good script net h in
+    record {
+      script = script-range script p;
+      net = net-range net (and-left (isGood (readNet net .form)) _ q);
+      accepted =
+          accepted-is-tested (scriptIn script) (view (scriptIn script) (netIn net)) (beyond (scriptIn script) (netIn net)) .0
+          (and-right (isGood (readNet net .form)) _ q);
+    }
+
+-- ---- the call
+
+module _ (script net q : List ℕ) (t : Taken) (is : t ≡ takenApart script net) where
+  answered : t .answer ≡ imageAnswer script net
+  answered = ap (λ (z : Taken). z .answer) is
+
+  pub call-refused : isDone (t .answer) ≡ false → (o : Told) → o ≡ refusal (t .answer) → Replies o net (reply script net q)
   unfolding reply
-  script-bad h t is =
-      let b : goodScript script ≡ false = ap (λ (z : ScriptRead). isGood (z .form)) (sym is-s) ∙ bad-form (sr .form) h in
-      rw b (is, refl)
+  call-refused h o e = rw (sym (ap isDone answered) ∙ h) (e ∙ ap refusal answered, refl)
 
-  module _ (h : sr .form ≡ Form.Good) (nr : NetRead) (is-n : nr ≡ readNet net) where
-    script-there : goodScript script ≡ true
-    script-there = ap (λ (z : ScriptRead). isGood (z .form)) (sym is-s) ∙ good-form (sr .form) h
+  pub call-good : isDone (t .answer) ≡ true → Good (t .script) (t .net)
+  call-good h = subst (λ (z : Taken). Good (z .script) (z .net)) (sym is) (good-images script net (sym (ap isDone answered) ∙ h))
 
-    pub net-bad : nr .form ≡ Form.Bad → (t : Told) → t ≡ refusal Answer.BadNet → Replies t net (reply script net q)
-    unfolding reply goodNet
-    net-bad g t is =
-        let b : isGood (readNet net .form) ≡ false = ap (λ (z : NetRead). isGood (z .form)) (sym is-n) ∙ bad-form (nr .form) g in
-        rw (script-there, b) (is, refl)
-
-    module _ (g : nr .form ≡ Form.Good) where
-      net-there : isGood (readNet net .form) ≡ true
-      net-there = ap (λ (z : NetRead). isGood (z .form)) (sym is-n) ∙ good-form (nr .form) g
-
-      pub images-formed : Formed (sr .script) (nr .net) net
-      images-formed =
-          record {
-            script = ap (λ (z : ScriptRead). scriptInRange (z .script)) is-s ∙ script-range script script-there;
-            net-good = ap (λ (z : NetRead). netInRange (z .net)) is-n ∙ net-range net net-there;
-            long = net-long net net-there;
-          }
-
-      pub images-good : (t : Told) (last : List ℕ) → Replies t last (replyRead (sr .script) (nr .net) net q) → Replies t last (reply script net q)
-      unfolding reply goodNet replyRead
-      images-good t last is =
-          let here : Replies t last (replyRead (scriptIn script) (netIn net) net q) =
-          subst (λ (z : NetRead). Replies t last (replyRead (scriptIn script) (z .net) net q)) is-n
-          (subst (λ (z : ScriptRead). Replies t last (replyRead (z .script) (nr .net) net q)) is-s is) in
-          rw (script-there, net-there) here
+  pub call-done : isDone (t .answer) ≡ true → (o : Told) (last : List ℕ) → Replies o last (replyTo (t .script) (t .net) net (readRequest q)) → Replies o last (reply script net q)
+  unfolding reply
+  call-done h o last e =
+      rw (sym (ap isDone answered) ∙ h) (subst (λ (z : Taken). Replies o last (replyTo (z .script) (z .net) net (readRequest q))) is e)

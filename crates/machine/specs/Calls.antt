@@ -1,6 +1,6 @@
 -- One call on bytes, as a customer reads it: script, net and request are any byte strings; the answer, undone and touched; and the bytes of the
 -- net after it. Document 01, "Requests and what comes back".
--- In order: the images as they are read (`scriptIn`, `netIn`) and whether they are good (`goodScript`, `goodNet`); a request on good images, by the
+-- In order: the images as they are read (`scriptIn`, `netIn`) and whether they are good (`goodScript`, `goodNet`, `imageAnswer`, `takenApart`); a request on good images, by the
 -- theory's outcome (`served`); a reply (`Reply`), a refusal that leaves the net (`refusal`, `refusedWith`), the lent net after an outcome (`afterwards`); the reply to a call (`reply`).
 -- Assumes nothing.
 use Prim.Native.Nat.{ℕ}
@@ -27,6 +27,7 @@ use Rattle.requests.specs.declared.RequestRead.the-variants as RequestRead
 use Rattle.requests.specs.declared.Answer.{Answer}
 use Rattle.requests.specs.declared.Answer.the-variants as Answer
 use Rattle.rollback.specs.declared.Outcome.{Outcome}
+use Rattle.machine.specs.declared.Taken.{Taken}
 use Rattle.machine.specs.declared.Told.{Told}
 
 -- ---- the images
@@ -48,6 +49,12 @@ goodScript b = isGood (readScript b .form)
 -- 2: "net not accepted"
 unfoldable pub goodNet : Script → List ℕ → Bool
 goodNet s b = isGood (readNet b .form) && isAccepted s (view s (netIn b))
+
+unfoldable pub imageAnswer : List ℕ → List ℕ → Answer
+imageAnswer script net = pick (goodScript script) (pick (goodNet (scriptIn script) net) Answer.Done Answer.BadNet) Answer.BadScript
+
+abbrev pub takenApart : List ℕ → List ℕ → Taken
+takenApart script net = record { answer = imageAnswer script net; script = scriptIn script; net = netIn net }
 
 -- ---- a request on good images
 
@@ -84,9 +91,8 @@ abbrev pub replyTo : Script → Net → List ℕ → RequestRead → Reply
 replyTo s n net (RequestRead.Request r) = record { told = told (served s n r); net = afterwards (served s n r) net }
 replyTo s n net RequestRead.Bad = refusedWith Answer.BadRequest net
 
--- "Checks run in number order"
+-- "Checks run in number order": those of the images, and then those of the request
 unfoldable pub reply : List ℕ → List ℕ → List ℕ → Reply
 reply script net request =
-    pick (goodScript script)
-    (pick (goodNet (scriptIn script) net) (replyTo (scriptIn script) (netIn net) net (readRequest request)) (refusedWith Answer.BadNet net))
-    (refusedWith Answer.BadScript net)
+    pick (isDone (imageAnswer script net)) (replyTo (scriptIn script) (netIn net) net (readRequest request))
+    (refusedWith (imageAnswer script net) net)

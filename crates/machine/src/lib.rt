@@ -2,13 +2,15 @@
 // done, so a refusal leaves every byte.
 ghost use mathlib.Core.Path.{_≡_};
 ghost use mathlib.Core.Bool.{true};
-ghost use lib.ListN.{length};
+ghost use Rattle.images.specs.Net.{netInRange};
+ghost use Rattle.rules.specs.Same.{isAccepted};
+ghost use Rattle.rules.specs.View.{view};
 ghost use Rattle.requests.specs.Answers.{inRange};
 ghost use Rattle.requests.specs.Requests.{asked, readRequest};
 ghost use Rattle.rollback.specs.Rollback.{Good};
-ghost use Rattle.machine.specs.Calls.{served, told, refusal, afterwards, replyTo, reply};
+ghost use Rattle.machine.specs.Calls.{isGood, takenApart, served, told, refusal, afterwards, replyTo, reply};
 ghost use Rattle.machine.specs.Served.{steppedTo};
-ghost use Rattle.machine.specs.Called.{accepts, Formed, replyRead};
+ghost use Rattle.machine.specs.Called.{accepts, answerBy};
 use accept::Verdict;
 use accept::accept;
 use images::Form;
@@ -39,7 +41,66 @@ pub struct Told {
     pub touched: Localities,
 }
 
-// ---- a request on images that were read and accepted
+// Both images taken apart, and whether they are good: 1, 2, or done. What is taken apart without its form holds nothing.
+pub struct Taken {
+    pub answer: Answer,
+    pub script: Script,
+    pub net: Net,
+}
+
+// ---- the images
+
+fn is_accepted(v: Verdict) -> bool
+    ensures { λ r. ⌜ r ≡ accepts v ⌝ }
+{
+    match v {
+        Verdict::Accepted => true,
+        Verdict::Disagrees => false,
+        Verdict::Twice => false,
+        Verdict::WrongTuple => false,
+        Verdict::WrongLocality => false,
+        Verdict::WrongRoot => false,
+        Verdict::Cycle => false,
+    }
+}
+
+// The answer of the images, by their forms and by whether the net, which then is in range, is accepted.
+fn image_answer(script: Form, net: Form, s: Script, n: Net) -> Answer
+    requires { ⌜ ((isGood net ≡ true) → (netInRange n ≡ true)) ⌝ }
+    ensures { λ r. ⌜ r ≡ answerBy script net (isAccepted s (view s n)) ⌝ }
+{
+    let Form::Good = script else {
+        return Answer::BadScript;
+    };
+    let Form::Good = net else {
+        return Answer::BadNet;
+    };
+    let verdict = accept(s, n);
+    if !is_accepted(verdict) {
+        return Answer::BadNet;
+    }
+    Answer::Done
+}
+
+// Where the answer is done, both images have their form and the net is accepted: what a run of requests needs once.
+pub fn take_apart(script: &[u8], net: &[u8]) -> Taken
+    ensures { λ r. ⌜ r ≡ takenApart (now (script .entry)) (now (net .entry)) ⌝ }
+{
+    let of_script = read_script(script);
+    let of_net = read_net(net);
+    let script_form = of_script.form;
+    let net_form = of_net.form;
+    let s = of_script.script;
+    let n = of_net.net;
+    let answer = image_answer(script_form, net_form, s, n);
+    Taken {
+        answer,
+        script: s,
+        net: n,
+    }
+}
+
+// ---- a request on images that were taken apart and accepted
 
 fn stepped_to(n: Net, c: Change) -> Outcome
     ensures { λ o. ⌜ o ≡ steppedTo n c ⌝ }
@@ -105,9 +166,9 @@ fn tell(o: Outcome, net: &mut [u8]) -> Told
     t
 }
 
-// A request on images that were read and accepted.
+// A request on images that were taken apart and accepted.
 fn call_on(s: Script, n: Net, net: &mut [u8], request: &[u8]) -> Told
-    requires { ⌜ Good s n × (length (now net) ≡ 3600) ⌝ }
+    requires { ⌜ Good s n ⌝ }
     ensures { λ r. ⌜ (r ≡ replyTo s n (now (net .entry)) (readRequest (now (request .entry))) .told) × (now (net .exit) ≡ replyTo s n (now (net .entry)) (readRequest (now (request .entry))) .net) ⌝ }
 {
     let asked = read_request(request);
@@ -118,47 +179,16 @@ fn call_on(s: Script, n: Net, net: &mut [u8], request: &[u8]) -> Told
     tell(o, net)
 }
 
-fn is_accepted(v: Verdict) -> bool
-    ensures { λ r. ⌜ r ≡ accepts v ⌝ }
-{
-    match v {
-        Verdict::Accepted => true,
-        Verdict::Disagrees => false,
-        Verdict::Twice => false,
-        Verdict::WrongTuple => false,
-        Verdict::WrongLocality => false,
-        Verdict::WrongRoot => false,
-        Verdict::Cycle => false,
-    }
-}
-
-// A call on images that have their form: n was read from the lent net.
-fn call_read(s: Script, n: Net, net: &mut [u8], request: &[u8]) -> Told
-    requires { ⌜ Formed s n (now net) ⌝ }
-    ensures { λ r. ⌜ (r ≡ replyRead s n (now (net .entry)) (now (request .entry)) .told) × (now (net .exit) ≡ replyRead s n (now (net .entry)) (now (request .entry)) .net) ⌝ }
-{
-    let verdict = accept(s, n);
-    if !is_accepted(verdict) {
-        return refused(Answer::BadNet);
-    }
-    call_on(s, n, net, request)
-}
-
 // Codes 0 to 3, by document 01's checks 1 to 12.
 pub fn call(script: &[u8], net: &mut [u8], request: &[u8]) -> Told
     ensures { λ r. ⌜ (r ≡ reply (now (script .entry)) (now (net .entry)) (now (request .entry)) .told) × (now (net .exit) ≡ reply (now (script .entry)) (now (net .entry)) (now (request .entry)) .net) ⌝ }
 {
-    let s = read_script(script);
-    let script_form = s.form;
-    let Form::Good = script_form else {
-        return refused(Answer::BadScript);
+    let taken = take_apart(script, net);
+    let answer = taken.answer;
+    let Check::Holds = all_hold(answer) else {
+        return refused(answer);
     };
-    let n = read_net(net);
-    let net_form = n.form;
-    let Form::Good = net_form else {
-        return refused(Answer::BadNet);
-    };
-    let the_script = s.script;
-    let the_net = n.net;
-    call_read(the_script, the_net, net, request)
+    let s = taken.script;
+    let n = taken.net;
+    call_on(s, n, net, request)
 }

@@ -28,7 +28,7 @@ returns : tie.Need-returns
 returns c = request-bad (c .before .before .before .before .before .before .args .s) (c .before .before .before .before .before .before .args .n) (now (c .before .before .before .before .before .before .args .net)) (now (c .before .before .before .before .before .before .args .request)) (sym (c .before .enum-told .given .1) ∙ c .before .before .before .read-request .ensures) _ (c .refused .ensures)
 
 serve-requires : tie.Need-serve-requires
-serve-requires c κs = (c .before .before .before .before .before .before .pre .0, read-in-range (now (c .before .before .before .before .before .before .args .request)) _ (sym (c .before .asked .given .1) ∙ c .before .before .before .read-request .ensures))
+serve-requires c κs = (c .before .before .before .before .before .before .pre, read-in-range (now (c .before .before .before .before .before .before .args .request)) _ (sym (c .before .asked .given .1) ∙ c .before .before .before .read-request .ensures))
 
 tell-requires : tie.Need-tell-requires
 tell-requires c κs = search needs
