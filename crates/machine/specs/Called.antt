@@ -1,5 +1,6 @@
 -- The code of a call against its definition: what each part of it knows.
--- In order: which verdict accepts (`accepts`), and the answer of two forms and of acceptance (`answerBy`); what a contract says of a reply (`Replies`); a
+-- In order: which verdict accepts (`accepts`), and the answer of two forms and of acceptance (`answerBy`); what a contract says of a reply (`Replies`), and the
+-- lent bytes after an outcome (`left-no`, `written-yes`); a
 -- request that is read is in range (`read-in-range`), one that is not is refused (`request-bad`), one that is read is served (`request-good`); reading answers
 -- only what is in range (`script-range`, `net-range`); the verdict is acceptance (`accepts-tested`), so the answer is the definition's (`taken-range`, `taken-is`);
 -- images whose answer is done are good (`images-good`, `good-images`); the call (`call-refused`, `call-good`, `call-done`).
@@ -17,7 +18,7 @@ use Rattle.laws.specs.Lists.{getD-tab}
 use Rattle.laws.specs.Words.{wordAt}
 use Rattle.names.specs.Names.{keyCount, nodeCount}
 use Rattle.images.specs.Head.{partAt, headFormed, restZero}
-use Rattle.images.specs.Net.{slot0, slotInRange, netInRange}
+use Rattle.images.specs.Net.{slot0, slotInRange, netInRange, netWritten}
 use Rattle.images.specs.Script.{action0, scriptInRange, actionInRange}
 use Rattle.images.specs.Read as Images
 use Rattle.images.specs.Read.{actionOf, actionFormed, scriptOf, scriptFormed, nodesFormed, slotOf, slotFormed, netOf, netFormed, slotsFormed, readScript, readNet}
@@ -64,6 +65,16 @@ answerBy f g a = pick (isGood f) (pick (isGood g && a) Answer.Done Answer.BadNet
 -- what a call's contract says of its result and of the lent bytes after it
 abbrev pub Replies : Told → List ℕ → Reply → Type 0
 Replies t last r = (t ≡ r .told) × (last ≡ r .net)
+
+-- the lent bytes after an outcome: written where it is done, and otherwise left
+module _ (o : Outcome) (net last : List ℕ) where
+  pub left-no : isDone (o .answer) ≡ false → last ≡ net → last ≡ afterwards o net
+  unfolding afterwards
+  left-no h e = rw h e
+
+  pub written-yes : isDone (o .answer) ≡ true → last ≡ netWritten (o .net) net → last ≡ afterwards o net
+  unfolding afterwards
+  written-yes h e = rw h e
 
 -- ---- the request
 

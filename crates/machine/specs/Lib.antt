@@ -2,3 +2,5 @@
 pub mod Calls
 pub mod Served
 pub mod Called
+pub mod Asks
+pub mod Asked

@@ -34,6 +34,8 @@ use step::backward::backward;
 use step::checks::all_hold;
 use step::forward::forward;
 
+pub mod asks;
+
 // What a call tells beside the net: its answer, how many events were undone, and the localities at which a slot became free.
 pub struct Told {
     pub answer: Answer,
@@ -151,14 +153,14 @@ fn refused(answer: Answer) -> Told
 fn tell(o: Outcome, net: &mut [u8]) -> Told
     ensures { λ r. ⌜ (r ≡ told o) × (now (net .exit) ≡ afterwards o (now (net .entry))) ⌝ }
 {
-    let answer = o.answer;
+    let said = o.answer;
     let touched = o.touched;
     let t = Told {
-        answer,
+        answer: said,
         undone: o.undone,
         touched,
     };
-    let Check::Holds = all_hold(answer) else {
+    let Check::Holds = all_hold(said) else {
         return t;
     };
     let after = o.net;

@@ -1,7 +1,7 @@
 -- `tell` meets its contract: a refusal writes nothing. Assumes nothing.
 use mathlib.Core.Path.{_≡_, refl, sym, _∙_}
 use Rattle.step.specs.Tests.{holds-true, fails-false}
-use Rattle.machine.specs.Calls.{afterwards}
+use Rattle.machine.specs.Called.{left-no, written-yes}
 use borrow.Author.Needs.{needs}
 use Rattle.machine.proofs.tell.Statement.{statement}
 use Rattle.machine.proofs.tell.Tie as tie
@@ -20,8 +20,7 @@ enum-told-2 : tie.Need-enum-told-2
 enum-told-2 c = search needs
 
 returns : tie.Need-returns
-unfolding afterwards
-returns c = (refl, rw (fails-false _ (sym (c .before .before .all-hold .ensures) ∙ c .enum-told2 .given .1)) refl)
+returns c = (refl, left-no (c .before .before .before .before .before .args .o) _ _ (fails-false _ (sym (c .before .before .all-hold .ensures) ∙ c .enum-told2 .given .1)) refl)
 
 write-net-requires : tie.Need-write-net-requires
 write-net-requires c κs = search needs
@@ -30,8 +29,7 @@ same-length : tie.Need-same-length
 same-length c = search needs
 
 returns-2 : tie.Need-returns-2
-unfolding afterwards
-returns-2 c = (refl, rw (holds-true _ (sym (c .before .before .before .before .before .before .before .all-hold .ensures) ∙ c .before .before .before .before .before .enum-told .given .1)) (c .before .before .write-net .ensures .1))
+returns-2 c = (refl, written-yes (c .before .before .before .before .before .before .before .before .before .before .args .o) _ _ (holds-true _ (sym (c .before .before .before .before .before .before .before .all-hold .ensures) ∙ c .before .before .before .before .before .enum-told .given .1)) (c .before .before .write-net .ensures .1))
 
 pub tell-spec : {M : Type 1} → statement M
 tell-spec =
