@@ -49,6 +49,44 @@ pub enum Fault {
     TouchedForgetsAbsent,
     /// Keys made are counted by event and not by place.
     MadeCountedByEvent,
+    /// A rollback undoes its target alone and reports what it should.
+    UndoTargetOnly,
+    /// A rollback undoes what grew out of its target by keys alone: neither
+    /// who used a tuple that was made nor who took one that was read.
+    UndoDescendantsOnly,
+    /// Undone is one less where more than the target is undone.
+    UndoneOneLess,
+    /// Undone leaves out the splits.
+    SplitsNotCounted,
+    /// Touched is that of the target's own step.
+    TouchedOfTargetOnly,
+    /// What is undone and was made by what is undone stays: a process as live,
+    /// a consumed tuple as a live one.
+    RestoringWins,
+    /// Code 2 takes a split too.
+    SplitRolledBack,
+    /// A roll takes reference 0, whichever its node names.
+    RollByReferenceZero,
+    /// A request of fewer than 6 bytes is filled up with 255.
+    ShortRequestFilled,
+    /// A request of more than 6 bytes is cut.
+    LongRequestCut,
+    /// A net that is not accepted gets its length.
+    RefusedNetResized,
+    /// The finder gives the greatest key.
+    FinderGivesGreatest,
+    /// The finder gives consumed tuples too.
+    FinderTakesConsumed,
+    /// The finder looks at every locality.
+    FinderLooksEverywhere,
+    /// The finder's check 3 before its checks 1 and 2.
+    FinderKeyFirst,
+    /// The helper says "none" where key 63 alone is left.
+    LastKeyForgotten,
+    /// The helper says "none" where locality 31 alone is left.
+    LastLocalityForgotten,
+    /// The helper gives an absent locality below 8.
+    LocalityBelow8,
     /// A rule of the script's form is left out.
     ScriptRuleLeftOut(ScriptRule),
     /// A rule of the net's form is left out.

@@ -2,6 +2,8 @@
 //! the generated streams print.
 
 use crate::accept::Clause;
+use crate::call_stream::calls;
+use crate::calls::{self, Said as Call};
 use crate::cases::CASES;
 use crate::claims::Claims;
 use crate::fault::{with, Fault};
@@ -18,7 +20,7 @@ use std::panic::{catch_unwind, UnwindSafe};
 const SEED: u64 = 2;
 const LINES: u64 = 60_000;
 
-const READINGS: [Fault; 20] = [
+const READINGS: [Fault; 29] = [
     Fault::UndoOutUnderReader,
     Fault::SpawnGetsReference,
     Fault::LeaveInAfterRead,
@@ -39,6 +41,29 @@ const READINGS: [Fault; 20] = [
     Fault::PlacesBeforeNode,
     Fault::TouchedForgetsAbsent,
     Fault::MadeCountedByEvent,
+    Fault::UndoTargetOnly,
+    Fault::UndoDescendantsOnly,
+    Fault::UndoneOneLess,
+    Fault::SplitsNotCounted,
+    Fault::TouchedOfTargetOnly,
+    Fault::RestoringWins,
+    Fault::SplitRolledBack,
+    Fault::RollByReferenceZero,
+    Fault::ShortRequestFilled,
+];
+
+/// What `rewind` cannot show: it puts no request of more than 6 bytes, prints
+/// no net, and asks neither the finder nor the helpers.
+const NOT_IN_REWIND: [Fault; 9] = [
+    Fault::LongRequestCut,
+    Fault::RefusedNetResized,
+    Fault::FinderGivesGreatest,
+    Fault::FinderTakesConsumed,
+    Fault::FinderLooksEverywhere,
+    Fault::FinderKeyFirst,
+    Fault::LastKeyForgotten,
+    Fault::LastLocalityForgotten,
+    Fault::LocalityBelow8,
 ];
 
 /// Short streams first: a damaged image is noticed by its one line.
@@ -110,11 +135,21 @@ fn every_seeded_error_is_noticed() {
     check(&all_faults(), &streams);
 }
 
-/// In a trial stream every image has its length and nothing is rolled back.
-const NOT_IN_TRIALS: [Fault; 3] = [
+/// In a trial stream every image and request has its length and nothing is
+/// rolled back.
+const NOT_IN_TRIALS: [Fault; 12] = [
     Fault::TouchedForgetsAbsent,
     Fault::ScriptRuleLeftOut(ScriptRule::Length),
     Fault::NetRuleLeftOut(NetRule::Length),
+    Fault::UndoTargetOnly,
+    Fault::UndoDescendantsOnly,
+    Fault::UndoneOneLess,
+    Fault::SplitsNotCounted,
+    Fault::TouchedOfTargetOnly,
+    Fault::RestoringWins,
+    Fault::SplitRolledBack,
+    Fault::RollByReferenceZero,
+    Fault::ShortRequestFilled,
 ];
 
 #[test]
@@ -128,6 +163,32 @@ fn every_seeded_error_is_noticed_by_the_trials_alone() {
         let same = || catch_unwind(|| said(&stream).eq(expected.iter().copied()));
         assert!(!with(fault, same).unwrap_or(false), "{fault:?}");
     }
+}
+
+/// The calls show all that the trials cannot, and the rest as well.
+#[test]
+fn every_seeded_error_is_noticed_by_the_calls_alone() {
+    let stream = calls(1).bytes;
+    let expected: Vec<Call> = calls::said(&stream).collect();
+    let mut unnoticed = Vec::new();
+    for fault in all_faults().into_iter().chain(NOT_IN_REWIND) {
+        let differing = || catch_unwind(|| first_other(&stream, &expected));
+        match with(fault, differing) {
+            Ok(None) => unnoticed.push(fault),
+            Ok(Some(question)) => println!("{fault:?}: question {question}"),
+            Err(_) => println!("{fault:?}: it panics"),
+        }
+    }
+    assert!(
+        unnoticed.is_empty(),
+        "the calls do not notice {unnoticed:?}"
+    );
+}
+
+/// The first question to which something else is said.
+fn first_other(stream: &[u8], expected: &[Call]) -> Option<usize> {
+    let mut pairs = calls::said(stream).zip(expected);
+    pairs.position(|(said, expected)| said != *expected)
 }
 
 /// Do the claims notice it? A panic counts.
@@ -164,8 +225,9 @@ fn noticed_on_recipes(clause: Clause) -> bool {
 }
 
 /// READINGS, "What the theorems do not fix": these errors keep every claim,
-/// so only the cases and the streams notice them.
-const KEEPS_THE_CLAIMS: [Fault; 8] = [
+/// so only the cases and the streams notice them. Demand 3 holds for splits
+/// too, and for whichever event a roll takes.
+const KEEPS_THE_CLAIMS: [Fault; 11] = [
     Fault::SpawnGetsReference,
     Fault::SwappedSplit,
     Fault::InDropsReference,
@@ -174,6 +236,9 @@ const KEEPS_THE_CLAIMS: [Fault; 8] = [
     Fault::LaxCount,
     Fault::PresenceBeforeFields,
     Fault::PlacesBeforeNode,
+    Fault::SplitRolledBack,
+    Fault::RollByReferenceZero,
+    Fault::ShortRequestFilled,
 ];
 
 #[test]

@@ -6,14 +6,18 @@
 //! their form); `rule` (the forward rules); `dependence`; `accept` (the
 //! clauses of acceptance); `step`, `rollback`, `machine` (steps, rollback,
 //! checks, finder, helpers); `program` (`rewind`). Beside them: `text_read` and `text_write` (the
-//! language of `make` and `show`), `dot`, `gen`, `claims`, `against`, `form_cases` and `trials`
-//! with `trial_stream` above `trial_nets`, `trial_changes` and `trial_requests`.
+//! language of `make` and `show`), `dot`, `gen`, `claims`, `against`, `form_cases`, `trials`
+//! with `trial_stream` above `trial_nets`, `trial_changes` and `trial_requests`, and `calls`
+//! with `call_stream` above `call_nets`.
 #![forbid(unsafe_code)]
 
 pub mod accept;
 pub mod against;
 pub mod answer;
 pub mod arbitrary;
+pub mod call_nets;
+pub mod call_stream;
+pub mod calls;
 pub mod cases;
 pub mod claims;
 pub mod crc32;

@@ -3,8 +3,10 @@
 
 use crate::accept::accept;
 use crate::answer::{Answer, Report};
+use crate::fault::{seeded, Fault};
 use crate::names::{Key, Localities, Locality, NONE};
-use crate::net::{Net, Slot};
+use crate::net::{Net, Slot, Tuple};
+use crate::net_form::NET_LENGTH;
 use crate::random::Random;
 use crate::request::{Code, Places, Request};
 use crate::rollback::{rollback, Undoing};
@@ -32,7 +34,12 @@ pub fn answer(script: &[u8], net: &mut Vec<u8>, request: &[u8], order: &mut Rand
                 touched: undoing.touched,
             }
         }
-        Err(answer) => Report::refused(answer),
+        Err(answer) => {
+            if answer == Answer::NotAccepted && seeded(Fault::RefusedNetResized) {
+                net.resize(NET_LENGTH, 0);
+            }
+            Report::refused(answer)
+        }
     }
 }
 
@@ -89,7 +96,8 @@ fn take_rollback(
     request: &Request,
     order: &mut Random,
 ) -> Result<Undoing, Answer> {
-    if past_kind(script, net, request.key)? == Kind::Split {
+    let kind = past_kind(script, net, request.key)?;
+    if kind == Kind::Split && !seeded(Fault::SplitRolledBack) {
         return Err(Answer::WrongNode);
     }
     check_no_places(&request.places)?;
@@ -110,7 +118,11 @@ fn take_roll(
         return Err(Answer::WrongNode);
     };
     check_no_places(&request.places)?;
-    let event = process.references[reference.index()].ok_or(Answer::Unset)?;
+    let mut held = process.references[reference.index()];
+    if seeded(Fault::RollByReferenceZero) {
+        held = process.references[0];
+    }
+    let event = held.ok_or(Answer::Unset)?;
     Ok(undo_all(script, net, event, order))
 }
 
@@ -144,8 +156,12 @@ pub fn find(script: &[u8], net: &[u8], key: u8) -> (Answer, u8) {
 }
 
 fn try_find(script: &[u8], net: &[u8], key: u8) -> Result<Key, Answer> {
+    let name = Key::new(u32::from(key)).ok_or(Answer::BadRequest);
+    if seeded(Fault::FinderKeyFirst) {
+        name?;
+    }
     let (script, net) = open(script, net)?;
-    let key = Key::new(u32::from(key)).ok_or(Answer::BadRequest)?;
+    let key = name?;
     find_tuple(&script, &net, key)
 }
 
@@ -159,15 +175,20 @@ pub fn find_tuple(script: &Script, net: &Net, key: Key) -> Result<Key, Answer> {
         return Err(Answer::WrongNode);
     }
     let ready = get_ready(node, process, net)?;
-    let fits = |slot: &Slot| match slot {
-        Slot::Tuple(tuple) => {
-            Some(tuple.locality) == ready.target && matching(&ready.fields, &tuple.fields).is_some()
-        }
+    let matches = |tuple: &Tuple| {
+        let there = Some(tuple.locality) == ready.target || seeded(Fault::FinderLooksEverywhere);
+        there && matching(&ready.fields, &tuple.fields).is_some()
+    };
+    let fits = |&key: &Key| match net.slot(key) {
+        Slot::Tuple(tuple) => matches(tuple),
+        Slot::Consumed(tuple) => seeded(Fault::FinderTakesConsumed) && matches(tuple),
         _ => false,
     };
-    Key::all()
-        .find(|&key| fits(net.slot(key)))
-        .ok_or(Answer::NoTuple)
+    let found = match seeded(Fault::FinderGivesGreatest) {
+        false => Key::all().find(fits),
+        true => Key::all().rev().find(fits),
+    };
+    found.ok_or(Answer::NoTuple)
 }
 
 /// Helper: "the least free key", 255 where none is left.
@@ -179,7 +200,8 @@ pub fn least_free_key(script: &[u8], net: &[u8]) -> (Answer, u8) {
 }
 
 pub fn free_key(net: &Net) -> Option<Key> {
-    Key::all().find(|&key| net.is_free(key))
+    let forgotten = |key: Key| key.byte() == 63 && seeded(Fault::LastKeyForgotten);
+    Key::all().find(|&key| net.is_free(key) && !forgotten(key))
 }
 
 /// Helper: "least absent locality from 8", 255 where none is left.
@@ -191,5 +213,7 @@ pub fn least_absent_locality(script: &[u8], net: &[u8]) -> (Answer, u8) {
 }
 
 pub fn absent_locality(net: &Net) -> Option<Locality> {
-    Locality::all().find(|&l| !l.is_original() && !net.present.contains(l))
+    let from_8 = |l: Locality| !l.is_original() || seeded(Fault::LocalityBelow8);
+    let forgotten = |l: Locality| l.byte() == 31 && seeded(Fault::LastLocalityForgotten);
+    Locality::all().find(|&l| from_8(l) && !net.present.contains(l) && !forgotten(l))
 }

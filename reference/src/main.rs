@@ -3,6 +3,8 @@
 
 use reference::accept::{accept, Refusal};
 use reference::against::against;
+use reference::call_stream::calls;
+use reference::calls::answer_calls;
 use reference::claims::Claims;
 use reference::dot::dot;
 use reference::form_cases::FormCases;
@@ -32,6 +34,8 @@ const USAGE: &str = "usage:
   reference form-cases --input FILE --output FILE     cases of the form, and what each is
   reference trials SEED                               a stream of trials
   reference answer-trials                             a stream of trials in; a line for each question
+  reference calls SEED                                a stream of calls on bytes
+  reference answer-calls                              a stream of calls in; a line for each question
   reference find [KEY]                                script and net in; key, answer, tuple key out
   reference free-key | free-locality                  script and net in; answer and name out
 An image that is not named is read from standard input.
@@ -74,6 +78,8 @@ fn run(words: &[&str]) -> Output {
         "form-cases" => run_form_cases(options),
         "trials" => run_trials(options),
         "answer-trials" => Ok(answer_trials(&read_input(None)?).into_bytes()),
+        "calls" => run_calls(options),
+        "answer-calls" => Ok(answer_calls(&read_input(None)?).into_bytes()),
         "find" => run_find(options),
         "free-key" => run_helper(options, least_free_key),
         "free-locality" => run_helper(options, least_absent_locality),
@@ -256,6 +262,14 @@ fn run_form_cases(options: Options) -> Output {
 fn run_trials(mut options: Options) -> Output {
     match options.next().map(str::parse) {
         Some(Ok(seed)) => Ok(trials(seed).bytes),
+        _ => Err(USAGE.to_string()),
+    }
+}
+
+/// The call stream of a seed, as bytes.
+fn run_calls(mut options: Options) -> Output {
+    match options.next().map(str::parse) {
+        Some(Ok(seed)) => Ok(calls(seed).bytes),
         _ => Err(USAGE.to_string()),
     }
 }

@@ -1,6 +1,7 @@
 //! Document 01, "Requests and what comes back": the six bytes.
 
-use crate::names::{Key, Locality};
+use crate::fault::{seeded, Fault};
+use crate::names::{Key, Locality, NONE};
 
 pub const REQUEST_LENGTH: usize = 6;
 
@@ -14,6 +15,18 @@ pub enum Code {
 
 impl Code {
     pub const ALL: [Code; 4] = [Code::Forward, Code::Backward, Code::Rollback, Code::Roll];
+}
+
+/// "Request not 6 bytes": it is refused, but for the seeded errors.
+fn another_length(bytes: &[u8]) -> Option<Request> {
+    let cut = bytes.len() > REQUEST_LENGTH && seeded(Fault::LongRequestCut);
+    let filled = bytes.len() < REQUEST_LENGTH && seeded(Fault::ShortRequestFilled);
+    if !cut && !filled {
+        return None;
+    }
+    let mut bytes = bytes.to_vec();
+    bytes.resize(REQUEST_LENGTH, NONE);
+    Request::read(&bytes)
 }
 
 /// The four places after the key; 255 is `None`.
@@ -49,7 +62,7 @@ impl Request {
     /// neither 255 nor in range".
     pub fn read(bytes: &[u8]) -> Option<Request> {
         let &[code, key, tuple, first, second, locality] = bytes else {
-            return None;
+            return another_length(bytes);
         };
         Some(Request {
             code: *Code::ALL.get(usize::from(code))?,

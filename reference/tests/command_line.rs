@@ -93,6 +93,22 @@ fn answer_trials_prints_a_line_for_each_question() {
 }
 
 #[test]
+fn answer_calls_prints_a_line_for_each_question() {
+    let (script, net) = (image(T), image(A));
+    let images = [&b"KS\x10\x08"[..], &script, b"N\x10\x0e", &net].concat();
+    let call = [
+        &images[..],
+        b"KLF\x02C\x06",
+        &[0, 0, 255, 64, 3, 255],
+        b"C\x01",
+    ]
+    .concat();
+    let expected = "K 1 255\nK 0 2\nL 0 8\nF 4 255\nC 3 0 00000000 d8189ac5\n";
+    assert_eq!(prints(&["answer-calls"], &call), expected);
+    assert_eq!(prints(&["answer-calls"], &[]), "");
+}
+
+#[test]
 fn a_wrong_command_line_is_a_failure() {
     for arguments in [
         &["what"][..],
@@ -101,6 +117,8 @@ fn a_wrong_command_line_is_a_failure() {
         &["rewind", "--order"],
         &["trials"],
         &["trials", "one"],
+        &["calls"],
+        &["calls", "one"],
     ] {
         assert!(!run(arguments, &[]).status.success());
     }

@@ -837,5 +837,8 @@ fn the_kept_stream_and_answers_are_what_the_commands_make() {
     };
     let bytes = &stream().bytes;
     assert!(&kept("stdin") == bytes, "stdin is another stream");
-    assert!(kept("stdout") == answer_trials(bytes).into_bytes(), "stdout has other answers");
+    assert!(
+        kept("stdout") == answer_trials(bytes).into_bytes(),
+        "stdout has other answers"
+    );
 }

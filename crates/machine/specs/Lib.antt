@@ -1,6 +1,14 @@
--- Calls on bytes: what each replies (`Calls`), and that the code's steps and rollbacks are the theory's outcome (`Served`).
+-- Calls on bytes. To read: what a call replies (`Calls`) and what the questions answer (`Asks`); the three demands, of byte strings in and out (`Demands`); that any two
+-- permitted outcomes agree (`Agree`). The rest are lemmas: what the code does is the theory's outcome (`Served`), the code against the definitions (`Called`, `Asked`), what
+-- a net writes (`Written`), the net after a call (`After`), one call (`Bytes`), each code (`Codes`).
 pub mod Calls
+pub mod Asks
+pub mod Demands
+pub mod Agree
 pub mod Served
 pub mod Called
-pub mod Asks
 pub mod Asked
+pub mod Written
+pub mod After
+pub mod Bytes
+pub mod Codes
