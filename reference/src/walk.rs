@@ -67,7 +67,8 @@ impl Walk<'_> {
         }
     }
 
-    fn choose(&self, random: &mut Random) -> Vec<u8> {
+    /// A request that makes sense, or a spoiled one; it is not taken.
+    pub fn choose(&self, random: &mut Random) -> Vec<u8> {
         let sensible = self.sensible(random).write().to_vec();
         let spoils = if self.mood == Mood::Filling { 25 } else { 3 };
         if random.one_in(spoils) {
