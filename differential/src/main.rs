@@ -4,9 +4,10 @@
 use differential::bench::Difference;
 use differential::question::Question;
 use differential::turns::Turns;
+use std::io::{self, Write};
 use std::path::Path;
 use std::process::ExitCode;
-use std::{env, fs, io};
+use std::{env, fs};
 
 const USAGE: &str = "\
 differential SEED [COUNT] [--out DIR]
@@ -63,34 +64,38 @@ fn read_options(words: &[String]) -> Option<Options> {
 
 /// Did the two agree on everything?
 fn run(options: &Options) -> io::Result<bool> {
+    let mut out = io::stdout().lock();
     let mut turns = Turns::new(options.seed);
     let mut written = 0;
     let mut told = 0;
     turns.call_stream(options.seed);
     loop {
-        for difference in &turns.bench.differences[written..] {
+        for difference in turns.bench.differences.iter().take(ENOUGH).skip(written) {
             written += 1;
             let name = format!("differs-{}-{written}", options.seed);
-            println!("{name}: {difference}");
+            write!(out, "{name}: {difference}")?;
             write_files(Path::new(&options.directory), &name, difference)?;
         }
         let asked = turns.bench.tally.question_count();
-        if written >= ENOUGH || options.count.is_some_and(|count| asked >= count) {
+        if written == ENOUGH || options.count.is_some_and(|count| asked >= count) {
             break;
         }
         if asked / TELL_AFTER > told {
             told = asked / TELL_AFTER;
-            println!("{asked} questions, {written} differences");
+            writeln!(out, "{asked} questions, {written} differences")?;
         }
         turns.any();
     }
-    print!("{}", turns.bench.tally.text());
-    println!(
-        "seed {}: {} calls, {} questions in all, {written} differences",
-        options.seed,
+    write!(out, "{}", turns.bench.tally.text())?;
+    let (calls, all) = (
         turns.bench.tally.call_count(),
-        turns.bench.tally.question_count()
+        turns.bench.tally.question_count(),
     );
+    writeln!(
+        out,
+        "seed {}: {calls} calls, {all} questions in all, {written} differences",
+        options.seed
+    )?;
     Ok(written == 0)
 }
 

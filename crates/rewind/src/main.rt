@@ -1,0 +1,174 @@
+// The program of document 01: "The program `rewind` reads from standard input one script, one net, then requests, and prints a line each:
+// answer, undone in decimal, touched as 8 lower-case hex digits."
+ghost use mathlib.Core.Path.{_≡_};
+ghost use Prim.Native.Nat.{_-_, _*_, _/_, _%_, _≤_};
+ghost use lib.ListN.{length, take, drop};
+ghost use Rattle.rollback.specs.Rollback.{Good};
+ghost use Rattle.rewind.specs.Run.{runOf, answered};
+use images::Net;
+use images::Script;
+use libc::STDIN_FILENO;
+use libc::STDOUT_FILENO;
+use lines::LINE;
+use lines::put_line;
+use lines::put_refusal;
+use machine::Told;
+use machine::serve;
+use machine::take_apart;
+use requests::Answer;
+use requests::Request;
+use requests::RequestRead;
+use requests::read_request;
+use step::Check;
+use step::checks::all_hold;
+
+mod lines;
+
+const SCRIPT_SIZE: usize = 2064;
+
+const NET_SIZE: usize = 3600;
+
+// Room for the bytes of 4,096 requests, which are answered at a time, and for their lines.
+const INPUT_ROOM: usize = 24576;
+
+const OUTPUT_ROOM: usize = 61440;
+
+// The net after some requests, and where in the output their lines end.
+struct Answered {
+    net: Net,
+    end: usize,
+}
+
+// ---- requests that have arrived
+
+// All whole requests of a chunk, in their order, each on the net that the one before it left; their lines go to the front of the output. A
+// refusal, of a request's form or by a check, leaves the net. The net stays in this function, since handing it to another copies it.
+fn answer_chunk(s: Script, n: Net, requests: &[u8], out: &mut [u8]) -> Answered
+    requires { ⌜ Good s n ⌝ }
+    requires { ⌜ 15 * (length (now requests) / 6) ≤ length (now out) ⌝ }
+    ensures { λ r. ⌜ runOf (now (out .exit)) (r .end) (r .net) ≡ answered s n (now (requests .entry)) (length (now (requests .entry)) / 6) ⌝ }
+    ensures { λ r. ⌜ r .end ≤ length (now (out .exit)) ⌝ }
+{
+    let count = requests.len() / Request::SIZE;
+    let mut net = n;
+    let mut end: usize = 0;
+    let mut k: usize = 0;
+    while k < count {
+        let at = k * Request::SIZE;
+        let read = read_request(&requests[at..at + 6]);
+        k += 1;
+        let RequestRead::Request(r) = read else {
+            end = put_refusal(Answer::BadRequest, out, end);
+            continue;
+        };
+        let o = serve(s, net, r);
+        let answer = o.answer;
+        let touched = o.touched;
+        let t = Told {
+            answer,
+            undone: o.undone,
+            touched,
+        };
+        end = put_line(t, out, end);
+        net = o.net;
+    }
+    Answered { net, end }
+}
+
+// ---- the stream
+
+// The bytes after the last whole request, moved to the front; how many they are.
+fn keep_rest(input: &mut [u8], whole: usize) -> usize
+    requires { ⌜ whole ≤ length (now input) ⌝ }
+    ensures { λ r. ⌜ r ≡ whole % 6 ⌝ }
+    ensures { λ r. ⌜ take r (now (input .exit)) ≡ take r (drop (whole - r) (now (input .entry))) ⌝ }
+{
+    let rest = whole % Request::SIZE;
+    let from = whole - rest;
+    let mut i: usize = 0;
+    while i < rest {
+        input[i] = input[from + i];
+        i += 1;
+    }
+    rest
+}
+
+// What has arrived of the input, put behind the first `have` bytes; how many bytes there are then. None more is the end of the input, and so is
+// a read that fails.
+fn read_more(input: &mut [u8], have: usize) -> usize
+    requires { ⌜ have ≤ length (now input) ⌝ }
+    ensures { λ r. ⌜ (have ≤ r) × (r ≤ length (now (input .exit))) ⌝ }
+    ensures { λ r. ⌜ take have (now (input .exit)) ≡ take have (now (input .entry)) ⌝ }
+{
+    let room = input.len();
+    let free = &mut input[have..room];
+    let got = libc::read(STDIN_FILENO, free);
+    have + io::count(got, free)
+}
+
+// The line of a refusal; the program ends after it, so nobody asks whether it was written.
+fn print_refusal(answer: Answer) {
+    let mut space = [0u8; LINE];
+    let out: &mut [u8] = &mut space;
+    let end = put_refusal(answer, out, 0);
+    let text = &out[..];
+    io::write_all(STDOUT_FILENO, &text[0..end]);
+}
+
+// "1 to 5 bytes left over count as a request of wrong length."
+fn print_rest(rest: usize) {
+    if 0 < rest {
+        print_refusal(Answer::BadRequest);
+    }
+}
+
+// Requests as they arrive: all whole ones are answered, and their lines written, before the next read. An output that takes no more ends the run.
+// The count of turns is one that no run comes to.
+fn answer_all(s: Script, n: Net, input: &mut [u8], out: &mut [u8])
+    requires { ⌜ Good s n ⌝ }
+    requires { ⌜ (length (now input) ≡ 24576) × (length (now out) ≡ 61440) ⌝ }
+{
+    let mut net = n;
+    let mut have: usize = 0;
+    let mut turns: u64 = 18446744073709551615;
+    while 0 < turns {
+        let whole = read_more(input, have);
+        if whole == have {
+            print_rest(have);
+            return;
+        }
+        let a = answer_chunk(s, net, &input[0..whole], out);
+        let end = a.end;
+        if !io::write_all(STDOUT_FILENO, &out[0..end]) {
+            return;
+        }
+        net = a.net;
+        have = keep_rest(input, whole);
+        turns -= 1;
+    }
+}
+
+// "A bad script or net prints one such line and ends."
+fn main() {
+    let mut script_space = [0u8; SCRIPT_SIZE];
+    let script: &mut [u8] = &mut script_space;
+    let script_length = io::read_full(STDIN_FILENO, script);
+    let mut net_space = [0u8; NET_SIZE];
+    let net: &mut [u8] = &mut net_space;
+    let net_length = io::read_full(STDIN_FILENO, net);
+    let script_read = &script[..];
+    let net_read = &net[..];
+    let taken = take_apart(&script_read[0..script_length], &net_read[0..net_length]);
+    let answer = taken.answer;
+    let Check::Holds = all_hold(answer) else {
+        print_refusal(answer);
+        return;
+    };
+    let s = taken.script;
+    let n = taken.net;
+    let mut input_space = [0u8; INPUT_ROOM];
+    let input: &mut [u8] = &mut input_space;
+    let mut output_space = [0u8; OUTPUT_ROOM];
+    let out: &mut [u8] = &mut output_space;
+    answer_all(s, n, input, out);
+}
