@@ -108,7 +108,7 @@ pub record Demand1 (S N Q : List ℕ) : Type 0 where
 -- ==== Demand 2
 -- "A forward or backward step gives exactly the net that the published reversible Klaim rules, as document 01 reads them, give for that request. A
 -- step and its backward step restore every byte; a backward step and the same request forward do too."
--- `Can` and `forward`, `Undoable` and `undo` (`nets`) are the rules; that they are those of 004's Tables VII and X is in `tables`.
+-- `Can` and `forward`, `Undoable` and `undo` (`nets`) are the rules; that they are those of 004's Tables VII and X is in `tables`, and of these calls in `published`.
 
 -- "Six bytes: code, key, tuple key, first and second fresh key, fresh locality", with code 0; and with code 1, which needs none but the key
 abbrev pub forwardRequest : Forward.Request → List ℕ

@@ -1,0 +1,2 @@
+-- The calls on bytes are the published rules.
+pub mod Published
