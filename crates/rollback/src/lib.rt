@@ -34,13 +34,13 @@ use names::Reference;
 use requests::Answer;
 use requests::Request;
 use step::Check;
-use step::apply;
 use step::backward::undo_by;
 use step::checks::all_hold;
 use step::checks::is_live;
 use step::checks::is_past;
 use step::checks::none_placed;
 use step::checks::told;
+use step::put_or;
 use traces::deeds_of;
 use traces::events_of;
 use traces::rows_of;
@@ -73,22 +73,25 @@ fn done(undone: u8, touched: Localities, net: Net) -> Outcome
 }
 
 // The events of a set that holds whatever depends on one of them. Each turn undoes a last one of those left, found by one look at each row;
-// so the work is at most in proportion to the square of the number of keys, in whatever order the keys were given out.
+// so the work is at most in proportion to the square of the number of keys, in whatever order the keys were given out. Slots and present set stay
+// in this function, which looks up and writes in place: a net that is handed on is copied.
 fn undo_each(s: Script, n: Net, rows: [Keys; Key::COUNT], all: Keys) -> Outcome
     requires { ⌜ Asked s n rows all ⌝ }
     ensures { λ r. ⌜ r ≡ undoneAll s n (members all) ⌝ }
 {
-    let mut net = n;
+    let mut slots = n.slots;
+    let mut present = n.present;
     let mut left = all;
     let mut touched = Localities::EMPTY;
     let mut undone: u8 = 0;
     while undone < 64 {
         let k = last_of(rows, left);
         if !k.is_key() {
+            let net = Net { present, slots };
             return done(undone, touched, net);
         }
         let i = index_of(k);
-        let at_key = net.slots[i];
+        let at_key = slots[i];
         let x = slot_or_free(k, at_key);
         let node = x.node;
         let p = node_index(node);
@@ -96,24 +99,39 @@ fn undo_each(s: Script, n: Net, rows: [Keys; Key::COUNT], all: Keys) -> Outcome
         let a = node_or_nil(node, action);
         let one = x.first;
         let f = index_of(one);
-        let at_first = net.slots[f];
+        let at_first = slots[f];
         let first = slot_or_free(one, at_first);
         let two = x.second;
         let g = index_of(two);
-        let at_second = net.slots[g];
+        let at_second = slots[g];
         let second = slot_or_free(two, at_second);
         let used = x.used;
         let u = index_of(used);
-        let at_used = net.slots[u];
+        let at_used = slots[u];
         let t = slot_or_free(used, at_used);
-        let present = net.present;
         let c = undo_by(a, x, first, second, t, true, present, k);
         let freed = c.touched;
         touched = touched_too(touched, freed);
         left = left.without(k);
-        net = apply(net, c);
+        present = c.present;
+        let event = c.event;
+        let at_event = event.key;
+        let e = index_of(at_event);
+        let old_event = slots[e];
+        slots[e] = put_or(event, old_event);
+        let gone = c.first;
+        let at_gone = gone.key;
+        let h = index_of(at_gone);
+        let old_gone = slots[h];
+        slots[h] = put_or(gone, old_gone);
+        let other = c.other;
+        let at_other = other.key;
+        let o = index_of(at_other);
+        let old_other = slots[o];
+        slots[o] = put_or(other, old_other);
         undone += 1;
     }
+    let net = Net { present, slots };
     done(undone, touched, net)
 }
 
