@@ -3,8 +3,9 @@
 --
 -- In order: the members of a word (`members-of`, `members-excluding`), words with the same members (`same-keys`) and with none (`none-empty`,
 -- `empty-none`); `Leaves`, what last ones taken in turn leave (`leaves-in`, `leaves-trans`); a key is taken or all stays (`taking`,
--- `taking-lt`), and one key after the other is once over the keys (`pass-none`, `pass-down`); the edges are among the keys (`edges-among`); a
--- key that is taken is a last one (`last-taken`), and a last one would be (`taken-last`); once over the keys takes last ones (`pass-leaves`,
+-- `taking-lt`, `taking-other`); keys that are not left are passed over (`pass-over`), so once over those left is once over the keys
+-- (`Passing`: `passing-first`, `passing-left`, `passing-next`, `passing-done`); the edges are among the keys (`edges-among`); a key that is
+-- taken is a last one (`last-taken`), and a last one would be (`taken-last`); once over the keys takes last ones (`pass-leaves`,
 -- `pass-fewer`, `pass-lt`), and stays the same word only where there is no last one (`pass-stays`, `stuck`); `Kept`, what each turn keeps
 -- (`kept-first`, `kept-next`), and what it says where nothing is left (`kept-empty`), where nothing can be taken (`kept-stuck`), and after as
 -- many turns as there are keys (`kept-last`).
@@ -12,16 +13,15 @@
 use mathlib.Core.Path.{_≡_, refl, sym, ap, _∙_, fun-ext}
 use mathlib.Core.Bool.{true, false, _&&_}
 use mathlib.Core.List.{List, [], _∷_, _++_}
-use Prim.Native.Nat.{ℕ, zero, suc, _+_, _-_, _^_, _≤_, _<_}
+use Prim.Native.Nat.{ℕ, zero, suc, _+_, _^_, _≤_, _<_}
 use native.Mathlib.Nat.{not-suc-le-zero}
-use native.Mathlib.Numerals.{unary-clauses}
 use native.Mathlib.Omega.{arith}
 use lib.Dec.{eqb, ltb}
 use lib.Bits.{and-le-r}
 use lib.Pow.{pow-pos}
 use borrow.Author.Tests.{eqb-true, eqb-false, eq-eqb, ltb-true, lt-ltb}
 use Rattle.laws.specs.Choice.{cases, clash, fails, agree, and-left, and-right, and-both}
-use Rattle.laws.specs.Sets.{member, member-and, member-empty, member-excluding, excluding-lt, same-members}
+use Rattle.laws.specs.Sets.{member, member-and, member-empty, member-excluding, member-excluding-other, excluding-lt, same-members}
 use Rattle.order.specs.KeySets.{Set, _∈_, _⊆_, only, _∖_, minus-in, minus-out, in-minus, None, search}
 use Rattle.order.specs.KeySets.{count, count-le, count-subset, count-minus, count-some, count-strict}
 use Rattle.order.specs.Words.{word-excluding}
@@ -33,6 +33,7 @@ use Rattle.names.specs.KeySets.{isIn, excluding, both, isEmpty}
 use Rattle.names.specs.declared.Key.{Key}
 use Rattle.names.specs.declared.Keys.{Keys}
 use Rattle.cycles.specs.Cycles.{members, rowAt, edges, afterTaking, afterPass}
+use Rattle.cycles.specs.Highest.{Highest, ToCome, to-come-first, to-come-near, to-come-there, to-come-over, to-come-next, to-come-none, to-come-other}
 
 -- ---- words
 
@@ -90,17 +91,65 @@ pub taking-lt : (row left : Keys) (k : Key) → left .0 < 2 ^ keyCount → after
 taking-lt row left k h =
     taking row left k (λ p q e. rw e (excluding-lt keyCount (left .0) (k .0) h)) (λ n e. rw e h)
 
--- over no keys all stays
-pub pass-none : (rows : List Keys) (i : ℕ) (left : Keys) → i ≤ 0 → afterPass rows i left ≡ left
-unfolding afterPass
-pass-none rows zero left h = refl
-pass-none rows (suc i) left h = absurd (not-suc-le-zero h)
+-- another key is left as it was
+pub taking-other : (row left : Keys) (k : Key) (x : ℕ) → k .0 < keyCount → x < keyCount → (x ≡ k .0 → ⊥) → member (afterTaking row left k .0) x ≡ member (left .0) x
+taking-other row left k x h l d =
+    taking row left k (λ p q e. ap (λ (s : Keys). member (s .0) x) e ∙ member-excluding-other keyCount (left .0) (k .0) x h l d)
+    (λ n e. ap (λ (s : Keys). member (s .0) x) e)
 
--- the last key, and then those below it
-pub pass-down : (rows : List Keys) (i : ℕ) (left : Keys) → 0 < i → afterPass rows (i - 1) (afterTaking (rowAt rows (i - 1)) left (key (i - 1))) ≡ afterPass rows i left
+-- ---- once over those that are left
+
+-- keys that are not left are passed over
+pub pass-over : (rows : List Keys) (j i : ℕ) (left : Keys) → j ≤ i → ((x : ℕ) → j ≤ x → x < i → member (left .0) x ≡ false) → afterPass rows i left ≡ afterPass rows j left
 unfolding afterPass
-pass-down rows zero left h = absurd (not-suc-le-zero h)
-pass-down rows (suc i) left h = simp unary-clauses refl
+pass-over rows j zero left h out = let e : j ≡ 0 = omega (arith, h) in rw e refl
+pass-over rows j (suc i) left h out =
+    cases (eqb j (suc i)) (λ p. rw (eqb-true j (suc i) p) refl)
+    (λ p.
+    let l : j ≤ i = omega (arith, h, eqb-false j (suc i) p) in
+    taking (rowAt rows i) left (key i) (λ q none e. clash (member (left .0) i) q (out i l (omega arith)))
+    (λ n e. ap (afterPass rows i) e ∙ pass-over rows j i left l (λ x a b. out x a (omega (arith, b)))))
+
+-- in the midst of it: of those left some are still to come, and what they leave is what all leave
+pub record Passing (rows : List Keys) (start rest toCome : Keys) : Type 0 where
+  pub bound : ℕ
+  pub come : ToCome bound rest toCome
+  pub leave : afterPass rows bound rest ≡ afterPass rows keyCount start
+
+pub passing-first : (rows : List Keys) (start : Keys) → Passing rows start start start
+passing-first rows start = record { bound = keyCount; come = to-come-first start; leave = refl }
+
+module _ (rows : List Keys) (start rest toCome : Keys) (w : Passing rows start rest toCome) where
+  -- a key that is to come is left
+  pub passing-left : (k : Key) → Highest toCome k → isIn rest k ≡ true
+  passing-left k h = to-come-there (w .bound) rest toCome (w .come) k h
+
+  -- the greatest to come is looked at
+  pub passing-next : (k : Key) → Highest toCome k → (more fewer : Keys) → more ≡ afterTaking (rowAt rows (k .0)) rest k → fewer ≡ excluding toCome k → Passing rows start more fewer
+  unfolding afterPass
+  passing-next k h more fewer em ef =
+      record {
+        bound = k .0;
+        come = to-come-other (k .0) rest fewer (to-come-next (w .bound) rest toCome (w .come) k h fewer ef) more same;
+        leave = ap (afterPass rows (k .0)) em ∙ sym (pass-over rows (suc (k .0)) (w .bound) rest near over) ∙ w .leave;
+      }
+    where
+      near : k .0 < w .bound
+      near = to-come-near (w .bound) rest toCome (w .come) k h
+
+      over : (x : ℕ) → k .0 < x → x < w .bound → member (rest .0) x ≡ false
+      over = to-come-over (w .bound) rest toCome (w .come) k h
+
+      same : (x : ℕ) → x < k .0 → member (rest .0) x ≡ member (more .0) x
+      same x l =
+          sym (taking-other (rowAt rows (k .0)) rest k x (h .below) (omega (arith, l, h .below)) (λ q. omega (arith, l, q))) ∙
+          ap (λ (s : Keys). member (s .0) x) (sym em)
+
+  -- once none is to come, the pass is done
+  pub passing-done : isEmpty toCome ≡ true → rest ≡ afterPass rows keyCount start
+  unfolding afterPass
+  passing-done e =
+      sym (pass-over rows 0 (w .bound) rest (omega arith) (λ x l b. to-come-none (w .bound) rest toCome (w .come) e x b)) ∙ w .leave
 
 module _ (rows : List Keys) (s : Keys) where
   abbrev d : Graph

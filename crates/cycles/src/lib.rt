@@ -1,22 +1,31 @@
 // Whether what depends on what goes round in a circle: what nothing left depends on is taken away, until nothing is left or nothing can
 // be taken. Once over the keys takes what it can from the last to the first, so a history whose keys were given out in order goes in one
-// turn; each turn takes at least one, so the work is at most in proportion to the square of the number of keys.
+// turn; each turn takes at least one and looks only at those left, so the work is at most in proportion to the square of their number.
 ghost use mathlib.Core.Path.{_≡_};
+ghost use mathlib.Core.Bool.{true, false};
 ghost use Prim.Native.Nat.{_<_};
 ghost use Rattle.names.specs.Names.{keyCount};
+ghost use Rattle.names.specs.KeySets.{isIn, isEmpty};
 ghost use Rattle.order.specs.Peeling.{acyclic};
-ghost use Rattle.cycles.specs.Cycles.{edges, members, afterTaking, afterPass};
+ghost use Rattle.cycles.specs.Highest.{Highest};
+ghost use Rattle.cycles.specs.Cycles.{edges, members, afterTaking};
 use names::Key;
 use names::Keys;
 
-// What is left once this key is taken, which may be where no key that is left depends on it.
+// The greatest key of a set that has one.
+pub fn highest(set: Keys) -> Key
+    requires { ⌜ isEmpty set ≡ false ⌝ }
+    ensures { λ r. ⌜ Highest set r ⌝ }
+{
+    let above = u64::leading_zeros(set.0) as u8;
+    Key(63 - above)
+}
+
+// What is left once this key of those left is taken, which may be where no key that is left depends on it.
 fn take_last(row: Keys, left: Keys, k: Key) -> Keys
-    requires { ⌜ k .0 < 64 ⌝ }
+    requires { ⌜ (k .0 < 64) × (isIn left k ≡ true) ⌝ }
     ensures { λ r. ⌜ r ≡ afterTaking row left k ⌝ }
 {
-    if !left.has(k) {
-        return left;
-    }
     let others = left.without(k);
     let after = row.both(left);
     if after.is_empty() {
@@ -25,21 +34,8 @@ fn take_last(row: Keys, left: Keys, k: Key) -> Keys
     left
 }
 
-// Once over the keys, from the last to the first.
-fn pass(rows: [Keys; Key::COUNT], left: Keys) -> Keys
-    ensures { λ r. ⌜ r ≡ afterPass rows keyCount left ⌝ }
-{
-    let mut rest = left;
-    let mut i: u8 = 64;
-    while 0 < i {
-        i -= 1;
-        let row = rows[i as usize];
-        rest = take_last(row, rest, Key(i));
-    }
-    rest
-}
-
-// Row e holds the keys that depend directly on e; of these, and of the rows, only the given keys count.
+// Row e holds the keys that depend directly on e; of these, and of the rows, only the given keys count. Each turn goes once over those left,
+// from the last to the first, in this function: rows that are handed on are copied.
 pub fn has_no_cycle(rows: [Keys; Key::COUNT], keys: Keys) -> bool
     ensures { λ r. ⌜ r ≡ acyclic keyCount (edges rows keys) (members keys) ⌝ }
 {
@@ -49,7 +45,14 @@ pub fn has_no_cycle(rows: [Keys; Key::COUNT], keys: Keys) -> bool
         if left.is_empty() {
             return true;
         }
-        let rest = pass(rows, left);
+        let mut rest = left;
+        let mut to_come = left;
+        while !to_come.is_empty() {
+            let k = highest(to_come);
+            let row = rows[k.0 as usize];
+            rest = take_last(row, rest, k);
+            to_come = to_come.without(k);
+        }
         if rest.0 == left.0 {
             return false;
         }

@@ -1,67 +1,76 @@
 -- The marks that the code ends with are those of all dependents: whoever is reached is followed once, and what is followed has its direct
 -- dependents reached.
 --
--- In order: marks as sets (`marked-with`, `marked-row`, `marks-are`); the first number where a test fails (`first-split`), and so the next key to
--- follow, if there is one (`next-there`, `next-none`); `Following`, what each turn keeps (`follow-first`, `follow-next`), and that in the end the marks
--- are those of the dependents (`follow-closed`, `follow-done`, `follow-last`).
+-- In order: words as sets (`members-with`, `members-either`, `beside-is`, `members-beside`); marks as a word (`mark-none`, `mark-more`), and a
+-- word as marks (`Marking`: `marking-first`, `marking-next`, `marking-done`); which keys are to follow at first (`next-first`), the next of them
+-- is reached and was not followed (`next-there`, `next-fewer`), and where there is none all were followed (`next-none`); `Following`, what each
+-- turn keeps (`follow-first`, `follow-next`), and that in the end the marks are those of the dependents (`follow-done`).
 -- Assumes nothing.
-use mathlib.Core.Path.{_≡_, refl, sym, ap, _∙_, fun-ext, subst}
-use mathlib.Core.Bool.{Bool, true, false, not, _&&_, _||_, false≢true}
+use mathlib.Core.Path.{_≡_, refl, sym, ap, _∙_, fun-ext}
+use mathlib.Core.Bool.{Bool, true, false, not, and-true, or-false, _&&_, _||_}
 use mathlib.Core.List.{List}
-use Prim.Native.Nat.{ℕ, zero, suc, _+_, _≤_, _<_}
+use Prim.Native.Nat.{ℕ, zero, suc, _+_, _-_, _^_, _<_}
 use native.Mathlib.Omega.{arith}
 use lib.Dec.{eqb, ltb}
+use lib.Bits.{bitAnd, and-le-l}
 use lib.ListN.{length, getD, set, replicate, length-set, length-replicate, getD-replicate}
 use lib.Seq.{getD-set-same, getD-set-other}
-use borrow.Author.Tests.{eqb-true, eqb-false, ltb-true, lt-ltb, ltb-false, le-ltb, not-true}
-use Rattle.laws.specs.Choice.{pick, cases, clash, fails, and-left, and-right, and-both, or-left, or-right, or-cases}
-use Rattle.laws.specs.Lists.{tab, length-tab, getD-tab, tab-of}
-use Rattle.laws.specs.Checks.{firstNot, first-at, first-none}
-use Rattle.laws.specs.Sets.{member, member-and, including}
-use Rattle.order.specs.KeySets.{Set, _∈_, _∉_, _⊆_, only, only-self, _∪_, count, count-le, count-more, count-none, count-strict}
-use Rattle.order.specs.Words.{wordOf, wordOf-next}
-use Rattle.order.specs.Graphs.{Graph, Reach, here, reach-more, Closed, closed-reach, among-over, among-closed}
-use Rattle.order.specs.Dependents as Order
+use borrow.Author.Tests.{eqb-true, eqb-false, ltb-true, lt-ltb}
+use Rattle.laws.specs.Choice.{cases, clash, and-left, and-right, and-both, or-left, or-right, or-cases}
+use Rattle.laws.specs.Lists.{tab, tab-of}
+use Rattle.laws.specs.Sets.{member, bit, bit-lt, bit-not, member-and, member-or, member-empty, member-including, member-including-other, member-excluding-other}
+use Rattle.order.specs.KeySets.{Set, _∈_, _∉_, _⊆_, only, only-self, _∪_, _∖_, minus-in, minus-out, in-minus, count, count-le, count-more}
+use Rattle.order.specs.Words.{wordOf, wordOf-in, wordOf-is, wordOf-next}
+use Rattle.order.specs.Graphs.{Graph, Reach, here, reach-more, closed-reach, among-over, among-closed}
 use Rattle.order.specs.Dependents.{dependents-is}
-use Rattle.names.specs.Names.{keyCount, none, key, isKey}
-use Rattle.names.specs.KeySets.{keys, isIn, both}
+use Rattle.names.specs.Names.{keyCount, key}
+use Rattle.names.specs.KeySets.{keys, isIn, including, excluding, either, both, isEmpty}
 use Rattle.names.specs.declared.Key.{Key}
 use Rattle.names.specs.declared.Keys.{Keys}
-use Rattle.cycles.specs.Cycles as Cycles
-use Rattle.cycles.specs.Cycles.{rowAt, edges}
-use Rattle.cycles.specs.Laws.{members-of, edges-among}
-use Rattle.dependents.specs.Marks.{markAt, marked, marks, unmarked, withMark, markedToo, withRow, unfollowed, nextNumber, nextOf, dependentMarks}
+use Rattle.cycles.specs.Highest.{Highest}
+use Rattle.cycles.specs.Cycles.{members, rowAt, edges}
+use Rattle.cycles.specs.Laws.{members-of, empty-none, edges-among}
+use Rattle.dependents.specs.Marks.{markAt, marked, marks, marksOf, beside, dependentMarks}
 use Rattle.dependents.specs.declared.Marks.{Marks}
 
--- ---- marks as sets
+-- ---- words as sets
 
-pub marked-with : (m : Marks) (k : ℕ) → k < keyCount → length (m .of) ≡ keyCount → marked (withMark m (key k)) ≡ only k ∪ marked m
-marked-with m k l h = fun-ext each
+-- a key put into the word is put into the set
+pub members-with : (s : Keys) (k : ℕ) → k < keyCount → members (including s (key k)) ≡ only k ∪ members s
+members-with s k l = fun-ext each
   where
-    each : (y : ℕ) → marked (withMark m (key k)) y ≡ (eqb y k || marked m y)
+    each : (y : ℕ) → members (including s (key k)) y ≡ (eqb y k || members s y)
     each y =
-        cases (eqb y k)
-        (λ p.
-        let e : y ≡ k = eqb-true y k p in
-        rw (p, e, lt-ltb k keyCount l) (getD-set-same (m .of) k true false (omega (arith, h))))
-        (λ p. rw p (ap (λ (b : Bool). ltb y keyCount && b) (getD-set-other (m .of) k y true false (λ q. eqb-false y k p q))))
+        cases (eqb y k) (λ p. rw (p, eqb-true y k p, lt-ltb k keyCount l) (member-including (s .0) k))
+        (λ p. rw p (ap (λ (b : Bool). ltb y keyCount && b) (member-including-other (s .0) k y (eqb-false y k p))))
 
-pub marked-row : (m : Marks) (row : Keys) (y : ℕ) → marked (withRow m row) y ≡ (marked m y || (ltb y keyCount && isIn row (key y)))
-unfolding withRow
-marked-row m row y =
-    cases (ltb y keyCount)
-    (λ p. rw p (getD-tab keyCount (λ k. markedToo (markAt m k) row (key k)) y false (ltb-true y keyCount p) ∙ either (markAt m y) (isIn row (key y))))
-    (λ p. rw p)
+pub members-either : (s t : Keys) → members (either s t) ≡ members s ∪ members t
+members-either s t = fun-ext (λ y. cases (ltb y keyCount) (λ p. rw p (member-or (s .0) (t .0) y)) (λ p. rw p))
+
+-- the code's mask is that of the keys of one word that are not in the other
+pub beside-is : (s t : Keys) → s .0 < 2 ^ keyCount → t .0 < 2 ^ keyCount → keys (bitAnd (s .0) (2 ^ keyCount - 1 - t .0)) ≡ beside s t
+unfolding beside member
+beside-is s t hs ht =
+    ap keys
+    (wordOf-is keyCount (members s ∖ members t) (bitAnd (s .0) mask) (omega (arith, hs, and-le-l (s .0) mask))
+    (λ x l. member-and (s .0) mask x ∙ rw (lt-ltb x keyCount l) (ap (λ (b : Bool). member (s .0) x && b) (masked x l))))
   where
-    either : (a b : Bool) → pick a true b ≡ (a || b)
-    either true b = refl
-    either false b = refl
+    mask : ℕ
+    mask = 2 ^ keyCount - 1 - t .0
 
--- marks of this set are its table
-pub marks-are : (m : Marks) (S : Set) → length (m .of) ≡ keyCount → marked m ≡ S → m ≡ marks (tab keyCount S)
-marks-are m S h e =
-    ap marks
-    (tab-of keyCount S (m .of) false h (λ i l. sym (ap (λ (b : Bool). b && markAt m i) (lt-ltb i keyCount l)) ∙ ap (λ (T : Set). T i) e))
+    other : (b : ℕ) → b < 2 → eqb (1 - b) 1 ≡ not (eqb b 1)
+    other zero l = refl
+    other (suc zero) l = refl
+    other (suc (suc b)) l = absurd (omega (arith, l))
+
+    masked : (x : ℕ) → x < keyCount → member mask x ≡ not (member (t .0) x)
+    masked x l = ap (λ (b : ℕ). eqb b 1) (bit-not keyCount (t .0) x l ht) ∙ other (bit (t .0) x) (bit-lt (t .0) x)
+
+pub members-beside : (s t : Keys) → members (beside s t) ≡ members s ∖ members t
+unfolding beside
+members-beside s t =
+    fun-ext
+    (λ y. cases (ltb y keyCount) (λ p. rw p (wordOf-in keyCount (members s ∖ members t) y (ltb-true y keyCount p) ∙ rw p refl)) (λ p. rw p))
 
 -- ---- marks as a word: a loop over the keys has those below k in it
 
@@ -71,88 +80,87 @@ module _ (m : Marks) (k : ℕ) (s : Keys) (e : s ≡ keys (wordOf k (marked m)))
       let out : k ∉ marked m = cases (ltb k keyCount) (λ p. rw p h) (λ p. rw p refl) in
       e ∙ ap keys (sym (wordOf-next k (marked m) ∙ rw out refl))
 
-  pub mark-more : k < keyCount → markAt m k ≡ true → keys (including (s .0) k) ≡ keys (wordOf (k + 1) (marked m))
+  pub mark-more : k < keyCount → markAt m k ≡ true → including s (key k) ≡ keys (wordOf (k + 1) (marked m))
   mark-more l h =
       let there : k ∈ marked m = and-both (ltb k keyCount) _ (lt-ltb k keyCount l) h in
-      ap (λ (t : Keys). keys (including (t .0) k)) e ∙ ap keys (sym (wordOf-next k (marked m) ∙ rw there refl))
+      ap (λ (t : Keys). including t (key k)) e ∙ ap keys (sym (wordOf-next k (marked m) ∙ rw there refl))
+
+-- ---- a word as marks: of its keys, those that have no mark yet are still to come
+
+pub record Marking (s toCome : Keys) (of : List Bool) : Type 0 where
+  pub long : length of ≡ keyCount
+  pub each : (x : ℕ) → x < keyCount → (getD of x false || member (toCome .0) x) ≡ member (s .0) x
+
+pub marking-first : (s : Keys) → Marking s s (replicate keyCount false)
+marking-first s =
+    record {
+      long = length-replicate keyCount false;
+      each = λ x l. ap (λ (b : Bool). b || member (s .0) x) (getD-replicate keyCount x false false l);
+    }
+
+module _ (s toCome : Keys) (of : List Bool) (w : Marking s toCome of) where
+  -- the greatest to come is marked
+  pub marking-next : (k : Key) → Highest toCome k → (fewer : Keys) → fewer ≡ excluding toCome k → Marking s fewer (set of (k .0) true)
+  marking-next k h fewer e =
+      record {
+        long = length-set of (k .0) true ∙ w .long;
+        each = λ x l. cases (eqb x (k .0)) (λ p. rw (eqb-true x (k .0) p) here-too) (λ p. other x l (eqb-false x (k .0) p));
+      }
+    where
+      here-too : (getD (set of (k .0) true) (k .0) false || member (fewer .0) (k .0)) ≡ member (s .0) (k .0)
+      here-too =
+          let there : member (s .0) (k .0) ≡ true = sym (w .each (k .0) (h .below)) ∙ or-right (getD of (k .0) false) _ (h .there) in
+          ap (λ (b : Bool). b || member (fewer .0) (k .0)) (getD-set-same of (k .0) true false (omega (arith, w .long, h .below))) ∙ sym there
+
+      other : (x : ℕ) → x < keyCount → (x ≡ k .0 → ⊥) → (getD (set of (k .0) true) x false || member (fewer .0) x) ≡ member (s .0) x
+      other x l d =
+          ap (λ (b : Bool). b || member (fewer .0) x) (getD-set-other of (k .0) x true false d) ∙
+          ap (λ (t : Keys). getD of x false || member (t .0) x) e ∙
+          ap (λ (b : Bool). getD of x false || b) (member-excluding-other keyCount (toCome .0) (k .0) x (h .below) l d) ∙ w .each x l
+
+  -- once none is to come, the marks are those of the word
+  pub marking-done : isEmpty toCome ≡ true → marks of ≡ marksOf s
+  unfolding marksOf
+  marking-done e =
+      ap marks
+      (tab-of keyCount (members s) of false (w .long)
+      (λ x l.
+      sym (or-false (getD of x false)) ∙
+      ap (λ (b : Bool). getD of x false || b) (sym (ap (λ (t : ℕ). member t x) (eqb-true (toCome .0) 0 e) ∙ member-empty x)) ∙
+      w .each x l ∙ sym (members-of s x l)))
 
 -- ---- the next key to follow
 
--- a test fails first at some number below n, or at none
-pub first-split {ℓ} : {A : Type ℓ} (n : ℕ) (f : ℕ → Bool) → (firstNot n f < n → f (firstNot n f) ≡ false → A)
-    → (firstNot n f ≡ n → ((j : ℕ) → j < n → f j ≡ true) → A) → A
-unfolding firstNot
-first-split zero f found none = none refl (λ j l. absurd (omega (arith, l)))
-first-split (suc n) f found none =
-    cases (f 0)
-    (λ p.
-    first-split n (λ i. f (suc i)) (λ l q. found (rw p (omega (arith, l))) (rw p q))
-    (λ e all. none (rw p (ap suc e)) (λ j l. below n f j l p all)))
-    (λ p. found (rw p (omega arith)) (rw p p))
-  where
-    below : (n : ℕ) (f : ℕ → Bool) (j : ℕ) → j < suc n → f 0 ≡ true → ((j : ℕ) → j < n → f (suc j) ≡ true) → f j ≡ true
-    below n f zero l p all = p
-    below n f (suc j) l p all = all j (omega (arith, l))
+none-in : (y : ℕ) → y ∉ members (keys 0)
+none-in y = cases (ltb y keyCount) (λ p. rw p (member-empty y)) (λ p. rw p)
 
-module _ (reached followed : Marks) where
-  abbrev left : ℕ → Bool
-  left k = unfollowed (markAt reached k) (markAt followed k)
+-- while none is followed all are to follow
+pub next-first : (s : Keys) → members s ≡ members s ∖ members (keys 0)
+next-first s = fun-ext (λ y. sym (ap (λ (b : Bool). members s y && not b) (none-in y) ∙ and-true (members s y)))
 
-  left-both : (a b : Bool) → unfollowed a b ≡ true → (a ≡ true) × (b ≡ false)
-  left-both true false h = (refl, refl)
-  left-both true true h = absurd (false≢true h)
-  left-both false false h = absurd (false≢true h)
-  left-both false true h = absurd (false≢true h)
-
-  left-none : (a b : Bool) → unfollowed a b ≡ false → a ≡ true → b ≡ true
-  left-none true true h e = refl
-  left-none true false h e = absurd (false≢true (sym h))
-  left-none false b h e = absurd (false≢true e)
-
+module _ (reached followed toFollow : Keys) (is : members toFollow ≡ members reached ∖ members followed) where
   -- where there is one, it is reached and not followed
-  pub next-there : (k : Key) → k ≡ nextOf reached followed → isKey k ≡ true → (k .0 ∈ marked reached) × (k .0 ∉ marked followed)
-  unfolding nextOf nextNumber
-  next-there k e h =
-      first-split keyCount (λ k. not (left k))
-      (λ l q.
-      let at : k .0 ≡ firstNot keyCount (λ k. not (left k)) = ap (λ (j : Key). j .0) e ∙ rw (lt-ltb _ keyCount l) refl in
-      let b : left (k .0) ≡ true = rw at (not-false (left (firstNot keyCount (λ k. not (left k)))) q) in
-      let (r, f) = left-both (markAt reached (k .0)) (markAt followed (k .0)) b in
-      (and-both (ltb (k .0) keyCount) _ h r, rw (h, f)))
-      (λ same all.
-      let at : k .0 ≡ none = ap (λ (j : Key). j .0) e ∙ rw same refl in
-      clash (ltb (k .0) keyCount) h (rw at (le-ltb none keyCount (omega arith))))
-    where
-      not-false : (b : Bool) → not b ≡ false → b ≡ true
-      not-false true h = refl
-      not-false false h = absurd (false≢true (sym h))
+  pub next-there : (k : Key) → Highest toFollow k → (k .0 ∈ members reached) × (k .0 ∉ members followed)
+  next-there k h =
+      let m : k .0 ∈ members reached ∖ members followed = ap (λ (T : Set). T (k .0)) (sym is) ∙ members-of toFollow (k .0) (h .below) ∙ h .there in
+      (minus-in (members reached) (members followed) (k .0) m, minus-out (members reached) (members followed) (k .0) m)
+
+  -- once it is followed, fewer are not
+  pub next-fewer : (k : Key) → Highest toFollow k → (done : Keys) → done ≡ including followed k
+      → keyCount - count keyCount (members done) < keyCount - count keyCount (members followed)
+  next-fewer k h done e =
+      let more : count keyCount (members done) ≡ suc (count keyCount (members followed)) =
+      ap (λ (s : Keys). count keyCount (members s)) e ∙ ap (count keyCount) (members-with followed (k .0) (h .below)) ∙
+      count-more keyCount (members followed) (k .0) (h .below) (next-there k h .1) in
+      omega (arith, more, count-le keyCount (members done))
 
   -- where there is none, all that is reached was followed
-  pub next-none : (k : Key) → k ≡ nextOf reached followed → isKey k ≡ false → marked reached ⊆ marked followed
-  unfolding nextOf nextNumber
-  next-none k e h y m =
-      first-split keyCount (λ k. not (left k))
-      (λ l q.
-      let at : k .0 ≡ firstNot keyCount (λ k. not (left k)) = ap (λ (j : Key). j .0) e ∙ rw (lt-ltb _ keyCount l) refl in
-      clash (ltb (k .0) keyCount) (rw at (lt-ltb _ keyCount l)) h)
-      (λ same all.
-      let l : ltb y keyCount ≡ true = and-left (ltb y keyCount) _ m in
-      let there : markAt reached y ≡ true = and-right (ltb y keyCount) _ m in
-      let q : left y ≡ false = not-true (left y) (all y (ltb-true y keyCount l)) in
-      and-both (ltb y keyCount) _ l (left-none (markAt reached y) (markAt followed y) q there))
-
-  -- a loop over the keys: the first that is left, and where none is
-  pub next-at : (k : ℕ) → k < keyCount → ((j : ℕ) → j < k → left j ≡ false) → left k ≡ true → key k ≡ nextOf reached followed
-  unfolding nextOf nextNumber
-  next-at k l before h =
-      let at : firstNot keyCount (λ j. not (left j)) ≡ k = first-at keyCount (λ j. not (left j)) k l (λ j q. ap not (before j q)) (ap not h) in
-      ap key (sym (rw (at, lt-ltb k keyCount l) refl))
-
-  pub next-end : ((j : ℕ) → j < keyCount → left j ≡ false) → key none ≡ nextOf reached followed
-  unfolding nextOf nextNumber
-  next-end all =
-      let at : firstNot keyCount (λ j. not (left j)) ≡ keyCount = first-none keyCount (λ j. not (left j)) (λ j q. ap not (all j q)) in
-      ap key (sym (rw at refl))
+  pub next-none : isEmpty toFollow ≡ true → members reached ⊆ members followed
+  next-none e y m =
+      cases (members followed y) (λ p. p)
+      (λ p.
+      let l : y < keyCount = ltb-true y keyCount (and-left (ltb y keyCount) _ m) in
+      clash (members toFollow y) (ap (λ (T : Set). T y) is ∙ in-minus (members reached) (members followed) y m p) (empty-none toFollow e y l))
 
 -- ---- turns
 
@@ -160,119 +168,80 @@ module _ (rows : List Keys) (events : Keys) (e : ℕ) where
   abbrev d : Graph
   d = edges rows events
 
-  -- after so many turns: what is reached is, what is followed has its direct dependents reached, and each turn followed one more
-  pub record Following (turn : ℕ) (reached followed : Marks) : Type 0 where
-    pub long : length (reached .of) ≡ keyCount
-    pub long-too : length (followed .of) ≡ keyCount
-    pub start : e ∈ marked reached
-    pub reach : (f : ℕ) → f ∈ marked reached → Reach d e f
-    pub inside : marked followed ⊆ marked reached
-    pub after : (k f : ℕ) → k ∈ marked followed → d k f ≡ true → f ∈ marked reached
-    pub turns : count keyCount (marked followed) ≡ turn
+  -- what is reached is, and what is followed has its direct dependents reached
+  pub record Following (reached followed : Keys) : Type 0 where
+    pub start : e ∈ members reached
+    pub reach : (f : ℕ) → f ∈ members reached → Reach d e f
+    pub after : (k f : ℕ) → k ∈ members followed → d k f ≡ true → f ∈ members reached
 
-  none-marked : (y : ℕ) → y ∉ marked unmarked
-  none-marked y = cases (ltb y keyCount) (λ p. rw p (getD-replicate keyCount y false false (ltb-true y keyCount p))) (λ p. rw p)
-
-  pub follow-first : e < keyCount → Following 0 (withMark unmarked (key e)) unmarked
-  follow-first l =
-      let long = length-replicate keyCount false in
-      let m = marked-with unmarked e l long in
+  -- at first the event is reached, and none is followed
+  pub follow-first : e < keyCount → (reached : Keys) → reached ≡ including (keys 0) (key e) → Following reached (keys 0)
+  follow-first l reached is =
+      let m : members reached ≡ only e ∪ members (keys 0) = ap members is ∙ members-with (keys 0) e l in
       record {
-        long = length-set (unmarked .of) e true ∙ long;
-        long-too = long;
         start = ap (λ (T : Set). T e) m ∙ or-left (eqb e e) _ (only-self e);
         reach =
             λ f h.
-            or-cases (eqb f e) (marked unmarked f) (sym (ap (λ (T : Set). T f) m) ∙ h) (λ p. rw (eqb-true f e p) here) (λ p. clash (marked unmarked f) p (none-marked f));
-        inside = λ y h. clash (marked unmarked y) h (none-marked y);
-        after = λ k f h s. clash (marked unmarked k) h (none-marked k);
-        turns = count-none keyCount (marked unmarked) (λ y b. none-marked y);
+            or-cases (eqb f e) (members (keys 0) f) (sym (ap (λ (T : Set). T f) m) ∙ h) (λ p. rw (eqb-true f e p) here) (λ p. clash (members (keys 0) f) p (none-in f));
+        after = λ k f h s. clash (members (keys 0) k) h (none-in k);
       }
 
   module _ (l : e < keyCount) (past : isIn events (key e) ≡ true) where
     -- whoever is reached is an event
-    reached-event : (f : ℕ) → Reach d e f → f ∈ Cycles.members events
-    reached-event f r =
-        closed-reach (Cycles.members events) (among-closed (edges-among rows events)) r (members-of events e l ∙ past)
+    reached-event : (f : ℕ) → Reach d e f → f ∈ members events
+    reached-event f r = closed-reach (members events) (among-closed (edges-among rows events)) r (members-of events e l ∙ past)
 
-    module _ (turn : ℕ) (reached followed : Marks) (w : Following turn reached followed) where
-      pub follow-next : (k : Key) → k ≡ nextOf reached followed → isKey k ≡ true → (row : Keys) → row ≡ both (rowAt rows (k .0)) events
-          → (more done : Marks) → more ≡ withRow reached row → done ≡ withMark followed k → Following (turn + 1) more done
-      unfolding withRow
-      follow-next k is there row r more done em ed =
-          let b : k .0 < keyCount = ltb-true (k .0) keyCount there in
-          let (was, fresh) = next-there reached followed k is there in
-          let now : marked done ≡ only (k .0) ∪ marked followed = ap marked ed ∙ marked-with followed (k .0) b (w .long-too) in
-          let old : (y : ℕ) → y ∈ marked reached → y ∈ marked more = λ y m. grown y (or-left (marked reached y) _ m) in
+    module _ (reached followed : Keys) (w : Following reached followed) where
+      pub follow-next : (k : Key) → k .0 < keyCount → k .0 ∈ members reached → (row : Keys) → row ≡ both (rowAt rows (k .0)) events
+          → (more done : Keys) → more ≡ either reached row → done ≡ including followed k → Following more done
+      follow-next k b was row r more done em ed =
           record {
-            long = ap (λ (m : Marks). length (m .of)) em ∙ length-tab keyCount (λ k. markedToo (markAt reached k) row (key k));
-            long-too = ap (λ (m : Marks). length (m .of)) ed ∙ length-set (followed .of) (k .0) true ∙ w .long-too;
-            start = old e (w .start);
+            start = grown e (or-left (members reached e) _ (w .start));
             reach =
                 λ f m.
-                or-cases (marked reached f) (ltb f keyCount && isIn row (key f)) (shrunk f m) (w .reach f)
+                or-cases (members reached f) (members row f) (shrunk f m) (w .reach f)
                 (λ p. reach-more (w .reach (k .0) was) (edge f p (w .reach (k .0) was)));
-            inside =
-                λ y m.
-                or-cases (eqb y (k .0)) (marked followed y) (sym (ap (λ (T : Set). T y) now) ∙ m) (λ p. old y (rw (eqb-true y (k .0) p) was)) (λ p. old y (w .inside y p));
             after =
                 λ j f m s.
-                or-cases (eqb j (k .0)) (marked followed j) (sym (ap (λ (T : Set). T j) now) ∙ m)
-                (λ p. grown f (or-right (marked reached f) _ (in-row f (rw (eqb-true j (k .0) p) at s)))) (λ p. old f (w .after j f p s));
-            turns = ap (count keyCount) now ∙ count-more keyCount (marked followed) (k .0) b fresh ∙ suc-turn;
+                or-cases (eqb j (k .0)) (members followed j) (sym (ap (λ (T : Set). T j) now) ∙ m)
+                (λ p. grown f (or-right (members reached f) _ (in-row f (rw (eqb-true j (k .0) p) at s))))
+                (λ p. grown f (or-left (members reached f) _ (w .after j f p s)));
           }
         where
-          grown : (y : ℕ) → (marked reached y || (ltb y keyCount && isIn row (key y))) ≡ true → y ∈ marked more
-          grown y m = ap (λ (n : Marks). marked n y) em ∙ marked-row reached row y ∙ m
+          now : members done ≡ only (k .0) ∪ members followed
+          now = ap members ed ∙ members-with followed (k .0) b
 
-          shrunk : (y : ℕ) → y ∈ marked more → (marked reached y || (ltb y keyCount && isIn row (key y))) ≡ true
-          shrunk y m = sym (marked-row reached row y) ∙ sym (ap (λ (n : Marks). marked n y) em) ∙ m
+          both-are : members more ≡ members reached ∪ members row
+          both-are = ap members em ∙ members-either reached row
+
+          grown : (y : ℕ) → (members reached y || members row y) ≡ true → y ∈ members more
+          grown y m = ap (λ (T : Set). T y) both-are ∙ m
+
+          shrunk : (y : ℕ) → y ∈ members more → (members reached y || members row y) ≡ true
+          shrunk y m = sym (ap (λ (T : Set). T y) both-are) ∙ m
 
           held : (f : ℕ) → isIn row (key f) ≡ (member (rowAt rows (k .0) .0) f && member (events .0) f)
           held f = ap (λ (t : Keys). member (t .0) f) r ∙ member-and (rowAt rows (k .0) .0) (events .0) f
 
-          edge : (f : ℕ) → (ltb f keyCount && isIn row (key f)) ≡ true → Reach d e (k .0) → d (k .0) f ≡ true
+          edge : (f : ℕ) → f ∈ members row → Reach d e (k .0) → d (k .0) f ≡ true
           edge f p q =
               let lf : ltb f keyCount ≡ true = and-left (ltb f keyCount) _ p in
               let h : (member (rowAt rows (k .0) .0) f && member (events .0) f) ≡ true = sym (held f) ∙ and-right (ltb f keyCount) _ p in
-              and-both (Cycles.members events (k .0)) _ (reached-event (k .0) q)
-              (and-both (Cycles.members events f) _ (and-both (ltb f keyCount) _ lf (and-right (member (rowAt rows (k .0) .0) f) _ h))
+              and-both (members events (k .0)) _ (reached-event (k .0) q)
+              (and-both (members events f) _ (and-both (ltb f keyCount) _ lf (and-right (member (rowAt rows (k .0) .0) f) _ h))
               (and-left (member (rowAt rows (k .0) .0) f) _ h))
 
-          in-row : (f : ℕ) → d (k .0) f ≡ true → (ltb f keyCount && isIn row (key f)) ≡ true
+          in-row : (f : ℕ) → d (k .0) f ≡ true → f ∈ members row
           in-row f s =
-              let t = and-right (Cycles.members events (k .0)) _ s in
-              let m = and-left (Cycles.members events f) _ t in
+              let t = and-right (members events (k .0)) _ s in
+              let m = and-left (members events f) _ t in
               and-both (ltb f keyCount) _ (and-left (ltb f keyCount) _ m)
-              (held f ∙ and-both (member (rowAt rows (k .0) .0) f) _ (and-right (Cycles.members events f) _ t) (and-right (ltb f keyCount) _ m))
-
-          suc-turn : suc (count keyCount (marked followed)) ≡ turn + 1
-          suc-turn = omega (arith, w .turns)
+              (held f ∙ and-both (member (rowAt rows (k .0) .0) f) _ (and-right (members events f) _ t) (and-right (ltb f keyCount) _ m))
 
       -- where all that is reached was followed, it is closed, and so it is the dependents
-      follow-closed : marked reached ⊆ marked followed → reached ≡ dependentMarks rows events (key e)
-      unfolding dependentMarks
-      follow-closed all =
-          marks-are reached (Order.dependents keyCount d e) (w .long)
-          (dependents-is keyCount d (among-over (edges-among rows events)) e (marked reached) (w .start)
-          (λ k f s m. w .after k f (all k m) s) (w .reach))
-
-      pub follow-done : (k : Key) → k ≡ nextOf reached followed → isKey k ≡ false → reached ≡ dependentMarks rows events (key e)
-      follow-done k is none = follow-closed (next-none reached followed k is none)
-
-      -- after as many turns as there are keys all were followed
-      pub follow-last : keyCount ≤ turn → reached ≡ dependentMarks rows events (key e)
-      follow-last h =
-          follow-closed
-          (λ y m.
-          cases (marked followed y) (λ p. p)
-          (λ p.
-          let l : y < keyCount = ltb-true y keyCount (and-left (ltb y keyCount) _ m) in
-          absurd
-          (omega (
-            arith,
-            h,
-            w .turns,
-            count-strict keyCount (marked followed) (λ x. true) (λ x b q. refl) y l p refl,
-            count-le keyCount (λ x. true),
-          ))))
+      pub follow-done : members reached ⊆ members followed → (m : Marks) → m ≡ marksOf reached → m ≡ dependentMarks rows events (key e)
+      unfolding marksOf dependentMarks
+      follow-done all m is =
+          is ∙
+          ap (λ (T : Set). marks (tab keyCount T))
+          (dependents-is keyCount d (among-over (edges-among rows events)) e (members reached) (w .start) (λ k f s m. w .after k f (all k m) s) (w .reach))

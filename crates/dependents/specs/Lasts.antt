@@ -1,48 +1,79 @@
 -- The key that the code undoes next is one of those left on which no other of them depends, and there is one as long as any is left.
 --
--- In order: `last-down` and `last-here`, how a loop from the last key on finds it; `last-there`, it is left and a last one; `last-found`, where there is no
--- cycle and something is left there is one.
+-- In order: keys that are not left are passed over (`last-over`), so those left are asked from the last to the first (`Asking`: `asking-first`,
+-- `asking-here`, `asking-next`, `asking-done`); there is a last one, or none (`last-split`); `last-there`, a key that is found is left and a last
+-- one; `last-none`, where there is no cycle and none is found nothing is left.
 -- Assumes nothing.
 use mathlib.Core.Path.{_≡_, refl, sym, ap, _∙_}
 use mathlib.Core.Bool.{Bool, true, false, false≢true}
 use mathlib.Core.List.{List}
-use Prim.Native.Nat.{ℕ, zero, suc, _-_, _≤_, _<_, _^_}
+use Prim.Native.Nat.{ℕ, zero, suc, _≤_, _<_, _^_}
 use native.Mathlib.Nat.{not-suc-le-zero}
-use native.Mathlib.Numerals.{unary-clauses}
 use native.Mathlib.Omega.{arith}
 use lib.Dec.{eqb, ltb}
-use borrow.Author.Tests.{eqb-true, eqb-false, ltb-true, lt-ltb, le-ltb}
+use borrow.Author.Tests.{eqb-true, eqb-false, lt-ltb, le-ltb}
 use Rattle.laws.specs.Choice.{pick, cases, clash}
-use Rattle.order.specs.KeySets.{_∈_, _⊆_, None, search}
+use Rattle.laws.specs.Sets.{member}
+use Rattle.order.specs.KeySets.{_⊆_, None, search}
 use Rattle.order.specs.Graphs.{Graph, Acyclic, Last, last-from, among-over}
 use Rattle.names.specs.Names.{keyCount, none, key, isKey}
-use Rattle.names.specs.KeySets.{isIn, both, isEmpty}
+use Rattle.names.specs.KeySets.{isIn, excluding, both, isEmpty}
 use Rattle.names.specs.declared.Key.{Key}
 use Rattle.names.specs.declared.Keys.{Keys}
+use Rattle.cycles.specs.Highest.{Highest, ToCome, to-come-first, to-come-near, to-come-there, to-come-over, to-come-next, to-come-none}
 use Rattle.cycles.specs.Cycles.{members, rowAt, edges}
 use Rattle.cycles.specs.Laws.{members-of, edges-among, last-taken, taken-last}
 use Rattle.dependents.specs.Marks.{isLastOf, lastOf}
 
--- a loop from the last key on: this key is not it
-pub last-down : (rows : List Keys) (i : ℕ) (left : Keys) → 0 < i → isLastOf (rowAt rows (i - 1)) left (key (i - 1)) ≡ false → lastOf rows (i - 1) left ≡ lastOf rows i left
-unfolding lastOf
-last-down rows zero left l h = absurd (not-suc-le-zero l)
-last-down rows (suc i) left l h =
-    let e : isLastOf (rowAt rows i) left (key i) ≡ false = simp unary-clauses at h in
-    simp unary-clauses (rw e refl)
+-- keys that are not left are passed over
+pub last-over : (rows : List Keys) (j i : ℕ) (left : Keys) → j ≤ i → ((x : ℕ) → j ≤ x → x < i → member (left .0) x ≡ false) → lastOf rows i left ≡ lastOf rows j left
+unfolding lastOf isLastOf
+last-over rows j zero left h out = let e : j ≡ 0 = omega (arith, h) in rw e refl
+last-over rows j (suc i) left h out =
+    cases (eqb j (suc i)) (λ p. rw (eqb-true j (suc i) p) refl)
+    (λ p.
+    let l : j ≤ i = omega (arith, h, eqb-false j (suc i) p) in
+    let no : isLastOf (rowAt rows i) left (key i) ≡ false = rw (out i l (omega arith)) refl in
+    ap (λ (b : Bool). pick b i (lastOf rows i left)) no ∙ last-over rows j i left l (λ x a b. out x a (omega (arith, b))))
 
--- this key is it
-pub last-here : (rows : List Keys) (i : ℕ) (left : Keys) → 0 < i → isLastOf (rowAt rows (i - 1)) left (key (i - 1)) ≡ true → i - 1 ≡ lastOf rows i left
-unfolding lastOf
-last-here rows zero left l h = absurd (not-suc-le-zero l)
-last-here rows (suc i) left l h =
-    let e : isLastOf (rowAt rows i) left (key i) ≡ true = simp unary-clauses at h in
-    simp unary-clauses (rw e refl)
+-- of those left some are still to be asked, and what they give is what all give
+pub record Asking (rows : List Keys) (left toCome : Keys) : Type 0 where
+  pub bound : ℕ
+  pub come : ToCome bound left toCome
+  pub give : lastOf rows bound left ≡ lastOf rows keyCount left
 
-pub last-end : (rows : List Keys) (i : ℕ) (left : Keys) → i ≤ 0 → none ≡ lastOf rows i left
-unfolding lastOf
-last-end rows zero left l = refl
-last-end rows (suc i) left l = absurd (not-suc-le-zero l)
+pub asking-first : (rows : List Keys) (left : Keys) → Asking rows left left
+asking-first rows left = record { bound = keyCount; come = to-come-first left; give = refl }
+
+module _ (rows : List Keys) (left toCome : Keys) (w : Asking rows left toCome) where
+  module _ (k : Key) (h : Highest toCome k) where
+    asked : pick (isEmpty (both (rowAt rows (k .0)) left)) (k .0) (lastOf rows (k .0) left) ≡ lastOf rows keyCount left
+    unfolding lastOf isLastOf
+    asked =
+        let there : isIn left k ≡ true = to-come-there (w .bound) left toCome (w .come) k h in
+        let near : k .0 < w .bound = to-come-near (w .bound) left toCome (w .come) k h in
+        let here : lastOf rows (suc (k .0)) left ≡ pick (isEmpty (both (rowAt rows (k .0)) left)) (k .0) (lastOf rows (k .0) left) =
+        ap (λ (b : Bool). pick (pick b (isEmpty (both (rowAt rows (k .0)) left)) false) (k .0) (lastOf rows (k .0) left)) there in
+        sym here ∙ sym (last-over rows (suc (k .0)) (w .bound) left near (to-come-over (w .bound) left toCome (w .come) k h)) ∙ w .give
+
+    -- the greatest to come is it
+    pub asking-here : isEmpty (both (rowAt rows (k .0)) left) ≡ true → k ≡ key (lastOf rows keyCount left)
+    asking-here e = ap key (sym (ap (λ (b : Bool). pick b (k .0) (lastOf rows (k .0) left)) e) ∙ asked)
+
+    -- it is not
+    pub asking-next : isEmpty (both (rowAt rows (k .0)) left) ≡ false → (fewer : Keys) → fewer ≡ excluding toCome k → Asking rows left fewer
+    asking-next e fewer ef =
+        record {
+          bound = k .0;
+          come = to-come-next (w .bound) left toCome (w .come) k h fewer ef;
+          give = sym (ap (λ (b : Bool). pick b (k .0) (lastOf rows (k .0) left)) e) ∙ asked;
+        }
+
+  -- none is to come, and so there is none
+  pub asking-done : isEmpty toCome ≡ true → key none ≡ key (lastOf rows keyCount left)
+  unfolding lastOf
+  asking-done e =
+      ap key (sym (last-over rows 0 (w .bound) left (omega arith) (λ x l b. to-come-none (w .bound) left toCome (w .come) e x b)) ∙ w .give)
 
 -- an argument by a key that is a last one, or by there being none
 pub last-split {ℓ} : {A : Type ℓ} (rows : List Keys) (i : ℕ) (left : Keys)

@@ -1,22 +1,22 @@
 -- Marks of keys, and what the code does with them. Nothing here must be believed: `Following` and `Lasts` prove what it comes to.
--- In order: marks as a set (`marked`); none, one more, those of a row (`unmarked`, `withMark`, `withRow`); the next key to follow (`nextOf`);
--- the marks of all dependents of an event (`dependentMarks`), which is what `order` says they are; the last key that may be undone (`lastOf`).
+-- In order: marks as a set (`marked`), and a set as marks (`marksOf`); the keys of one set that are not in another (`beside`); the marks of all
+-- dependents of an event (`dependentMarks`), which is what `order` says they are; the last key that may be undone (`lastOf`).
 -- Assumes nothing.
 use Prim.Native.Nat.{ℕ, zero, suc}
-use mathlib.Core.Bool.{Bool, true, false, not, _&&_, _||_}
+use mathlib.Core.Bool.{Bool, false, _&&_}
 use mathlib.Core.List.{List}
 use lib.Dec.{ltb}
-use lib.ListN.{getD, set, replicate}
+use lib.ListN.{getD}
 use Rattle.laws.specs.Choice.{pick}
 use Rattle.laws.specs.Lists.{tab}
-use Rattle.laws.specs.Checks.{firstNot}
-use Rattle.order.specs.KeySets.{Set}
+use Rattle.order.specs.KeySets.{Set, _∖_}
+use Rattle.order.specs.Words.{wordOf}
 use Rattle.order.specs.Dependents as Order
 use Rattle.names.specs.Names.{keyCount, none, key}
-use Rattle.names.specs.KeySets.{isIn, both, isEmpty}
+use Rattle.names.specs.KeySets.{keys, isIn, both, isEmpty}
 use Rattle.names.specs.declared.Key.{Key}
 use Rattle.names.specs.declared.Keys.{Keys}
-use Rattle.cycles.specs.Cycles.{rowAt, edges}
+use Rattle.cycles.specs.Cycles.{members, rowAt, edges}
 use Rattle.dependents.specs.declared.Marks.{Marks}
 
 -- ---- marks
@@ -30,30 +30,14 @@ marked m k = ltb k keyCount && markAt m k
 abbrev pub marks : List Bool → Marks
 marks bs = record { of = bs }
 
-abbrev pub unmarked : Marks
-unmarked = marks (replicate keyCount false)
-
-abbrev pub withMark : Marks → Key → Marks
-withMark m k = marks (set (m .of) (k .0) true)
-
-abbrev pub markedToo : Bool → Keys → Key → Bool
-markedToo old row k = pick old true (isIn row k)
-
-unfoldable pub withRow : Marks → Keys → Marks
-withRow m row = marks (tab keyCount (λ k. markedToo (markAt m k) row (key k)))
+unfoldable pub marksOf : Keys → Marks
+marksOf s = marks (tab keyCount (members s))
 
 -- ---- the dependents of an event
 
--- reached and not followed yet
-abbrev pub unfollowed : Bool → Bool → Bool
-unfollowed reached followed = pick followed false reached
-
--- the least such key
-unfoldable pub nextNumber : Marks → Marks → ℕ
-nextNumber reached followed = firstNot keyCount (λ k. not (unfollowed (markAt reached k) (markAt followed k)))
-
-unfoldable pub nextOf : Marks → Marks → Key
-nextOf reached followed = key (pick (ltb (nextNumber reached followed) keyCount) (nextNumber reached followed) none)
+-- the keys of the first set that are not in the second
+unfoldable pub beside : Keys → Keys → Keys
+beside these those = keys (wordOf keyCount (members these ∖ members those))
 
 -- "Dependents of e: all reached in any number of direct steps, e included."
 unfoldable pub dependentMarks : List Keys → Keys → Key → Marks

@@ -4,9 +4,10 @@ ghost use mathlib.Core.Path.{_≡_};
 ghost use mathlib.Core.Bool.{true};
 ghost use Prim.Native.Nat.{_<_};
 ghost use Rattle.names.specs.Names.{keyCount, key};
-ghost use Rattle.names.specs.KeySets.{keys, isIn};
+ghost use Rattle.names.specs.KeySets.{keys, isIn, both, isEmpty};
 ghost use Rattle.order.specs.Words.{wordOf};
-ghost use Rattle.dependents.specs.Marks.{unmarked, withMark, withRow, markedToo, unfollowed, nextOf, dependentMarks, marked, isLastOf, lastOf};
+ghost use Rattle.dependents.specs.Marks.{marksOf, beside, dependentMarks, marked, lastOf};
+use cycles::highest;
 use names::Key;
 use names::Keys;
 
@@ -15,100 +16,47 @@ pub struct Marks {
     pub of: [bool; Key::COUNT],
 }
 
-// ---- marks
+// ---- the dependents of an event
 
-fn unmarked() -> Marks
-    ensures { λ r. ⌜ r ≡ unmarked ⌝ }
+// The keys of the first set that are not in the second.
+fn beside(these: Keys, those: Keys) -> Keys
+    ensures { λ r. ⌜ r ≡ beside these those ⌝ }
 {
-    Marks {
-        of: [false; Key::COUNT],
-    }
+    Keys(these.0 & !those.0)
 }
 
-fn with_mark(m: Marks, k: Key) -> Marks
-    requires { ⌜ k .0 < 64 ⌝ }
-    ensures { λ r. ⌜ r ≡ withMark m k ⌝ }
-{
-    let i = k.0 as usize;
-    let mut next = m;
-    next.of[i] = true;
-    next
-}
-
-fn marked_too(old: bool, row: Keys, k: Key) -> bool
-    requires { ⌜ k .0 < 64 ⌝ }
-    ensures { λ r. ⌜ r ≡ markedToo old row k ⌝ }
-{
-    if old {
-        return true;
-    }
-    row.has(k)
-}
-
-// The marks, with one for each key of the row.
-fn with_row(m: Marks, row: Keys) -> Marks
-    ensures { λ r. ⌜ r ≡ withRow m row ⌝ }
+// A set as marks.
+fn marks_of(set: Keys) -> Marks
+    ensures { λ r. ⌜ r ≡ marksOf set ⌝ }
 {
     let mut of = [false; Key::COUNT];
-    let mut k: u8 = 0;
-    while k < 64 {
-        let i = k as usize;
-        let old = m.of[i];
-        of[i] = marked_too(old, row, Key(k));
-        k += 1;
+    let mut to_come = set;
+    while !to_come.is_empty() {
+        let k = highest(to_come);
+        of[k.0 as usize] = true;
+        to_come = to_come.without(k);
     }
     Marks { of }
 }
 
-// ---- the dependents of an event
-
-fn unfollowed(reached: bool, followed: bool) -> bool
-    ensures { λ r. ⌜ r ≡ unfollowed reached followed ⌝ }
-{
-    if followed {
-        return false;
-    }
-    reached
-}
-
-// The least key that is reached and not followed yet; none where there is none.
-fn next_of(reached: Marks, followed: Marks) -> Key
-    ensures { λ r. ⌜ r ≡ nextOf reached followed ⌝ }
-{
-    let mut k: u8 = 0;
-    while k < 64 {
-        let i = k as usize;
-        if unfollowed(reached.of[i], followed.of[i]) {
-            return Key(k);
-        }
-        k += 1;
-    }
-    Key::NONE
-}
-
-// Row e holds the keys that depend directly on e. Each key that is reached is followed once, at the cost of its row, so the work is at
-// most in proportion to the square of the number of keys.
+// Row e holds the keys that depend directly on e. Each key that is reached is followed once, at the cost of one look at its row, so the work
+// is in proportion to the number of keys reached.
 pub fn dependents(rows: [Keys; Key::COUNT], events: Keys, e: Key) -> Marks
     requires { ⌜ (e .0 < 64) × (isIn events e ≡ true) ⌝ }
     ensures { λ r. ⌜ r ≡ dependentMarks rows events e ⌝ }
 {
-    let none = unmarked();
-    let mut reached = with_mark(none, e);
-    let mut followed = none;
-    let mut turn: u8 = 0;
-    while turn < 64 {
-        let k = next_of(reached, followed);
-        if !k.is_key() {
-            return reached;
-        }
-        let i = k.0 as usize;
-        let all = rows[i];
+    let mut followed = Keys::EMPTY;
+    let mut reached = followed.with(e);
+    let mut to_follow = reached;
+    while !to_follow.is_empty() {
+        let k = highest(to_follow);
+        let all = rows[k.0 as usize];
         let row = all.both(events);
-        followed = with_mark(followed, k);
-        reached = with_row(reached, row);
-        turn += 1;
+        followed = followed.with(k);
+        reached = reached.either(row);
+        to_follow = beside(reached, followed);
     }
-    reached
+    marks_of(reached)
 }
 
 // The marks as a set.
@@ -128,29 +76,26 @@ pub fn keys_of(m: Marks) -> Keys
 
 // ---- which may be undone next
 
-// The key is left, and nothing left depends directly on it.
-fn is_last(row: Keys, left: Keys, k: Key) -> bool
-    requires { ⌜ k .0 < 64 ⌝ }
-    ensures { λ r. ⌜ r ≡ isLastOf row left k ⌝ }
+// Nothing left depends directly on the key of this row.
+fn none_after(row: Keys, left: Keys) -> bool
+    ensures { λ r. ⌜ r ≡ isEmpty (both row left) ⌝ }
 {
-    if !left.has(k) {
-        return false;
-    }
     let after = row.both(left);
     after.is_empty()
 }
 
-// The greatest such key; none where there is none.
+// The greatest key that is left and on which nothing left depends directly; none where there is none.
 pub fn last_of(rows: [Keys; Key::COUNT], left: Keys) -> Key
     ensures { λ r. ⌜ r ≡ key (lastOf rows keyCount left) ⌝ }
 {
-    let mut i: u8 = 64;
-    while 0 < i {
-        i -= 1;
-        let row = rows[i as usize];
-        if is_last(row, left, Key(i)) {
-            return Key(i);
+    let mut to_come = left;
+    while !to_come.is_empty() {
+        let k = highest(to_come);
+        let row = rows[k.0 as usize];
+        if none_after(row, left) {
+            return k;
         }
+        to_come = to_come.without(k);
     }
     Key::NONE
 }

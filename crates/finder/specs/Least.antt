@@ -14,7 +14,6 @@ use Rattle.laws.specs.Choice.{pick, cases, clash}
 use Rattle.laws.specs.Checks.{firstNot, first-at, first-none}
 use Rattle.order.specs.KeySets.{Set, None}
 use Rattle.names.specs.Names.{none}
-use Rattle.dependents.specs.Following.{first-split}
 
 abbrev pub least : ℕ → Set → ℕ
 least count f = firstNot count (λ j. not (f j))
@@ -32,6 +31,22 @@ pub record Least (count : ℕ) (f : Set) (k : ℕ) : Type 0 where
 not-false : (b : Bool) → not b ≡ false → b ≡ true
 not-false true h = refl
 not-false false h = clash true refl h
+
+-- a test fails first at some number below n, or at none
+first-split {ℓ} : {A : Type ℓ} (n : ℕ) (f : ℕ → Bool) → (firstNot n f < n → f (firstNot n f) ≡ false → A)
+    → (firstNot n f ≡ n → ((j : ℕ) → j < n → f j ≡ true) → A) → A
+unfolding firstNot
+first-split zero f found none = none refl (λ j l. absurd (omega (arith, l)))
+first-split (suc n) f found none =
+    cases (f 0)
+    (λ p.
+    first-split n (λ i. f (suc i)) (λ l q. found (rw p (omega (arith, l))) (rw p q))
+    (λ e all. none (rw p (ap suc e)) (λ j l. below n f j l p all)))
+    (λ p. found (rw p (omega arith)) (rw p p))
+  where
+    below : (n : ℕ) (f : ℕ → Bool) (j : ℕ) → j < suc n → f 0 ≡ true → ((j : ℕ) → j < n → f (suc j) ≡ true) → f j ≡ true
+    below n f zero l p all = p
+    below n f (suc j) l p all = all j (omega (arith, l))
 
 -- below the first number at which it fails, a test holds
 first-before : (n : ℕ) (f : Set) (j : ℕ) → j < firstNot n f → f j ≡ true

@@ -1,85 +1,85 @@
--- `dependents` meets its contract. The loop's invariant is `Following`. Assumes nothing.
-use mathlib.Core.Path.{_≡_, refl, sym, _∙_, ap}
+-- `dependents` meets its contract. The loop's invariant: those to follow are reached and not followed, and `Following`. Assumes nothing.
+use mathlib.Core.Path.{_≡_, sym, _∙_, ap}
 use mathlib.Core.Bool.{true}
-use Prim.Native.Nat.{ℕ, _-_, _≤_, _<_}
-use native.Mathlib.Omega.{arith}
-use borrow.Author.Tests.{not-true, not-false, ltb-true}
+use Prim.Native.Nat.{ℕ, _-_, _<_}
+use borrow.Author.Tests.{not-true, not-false}
+use Rattle.order.specs.KeySets.{_∖_, count}
 use Rattle.names.specs.Names.{keyCount, key}
-use Rattle.names.specs.KeySets.{isIn}
-use Rattle.dependents.specs.Marks.{unmarked, withMark}
-use Rattle.dependents.specs.declared.Marks.{Marks}
-use Rattle.dependents.specs.Following.{Following, follow-first, follow-next, follow-done, follow-last}
+use Rattle.names.specs.KeySets.{keys, isIn, including}
+use Rattle.cycles.specs.Cycles.{members}
+use Rattle.dependents.specs.Following.{members-beside, next-first, next-there, next-fewer, next-none}
+use Rattle.dependents.specs.Following.{Following, follow-first, follow-next, follow-done}
 use borrow.Author.Needs.{needs}
 use Rattle.dependents.proofs.dependents.Statement.{statement}
 use Rattle.dependents.proofs.dependents.Tie as tie
-use Rattle.dependents.proofs.dependents.Reads as reads
-use Rattle.dependents.proofs.dependents.Lts as lts
-use Rattle.dependents.proofs.next_of.Reads as next-of-reads
-use Rattle.dependents.proofs.unmarked.Reads as unmarked-reads
-use Rattle.dependents.proofs.with_mark.Reads as with-mark-reads
-use Rattle.dependents.proofs.with_row.Reads as with-row-reads
-use Rattle.names.proofs.Key.is_key.Reads as is-key-reads
-use Rattle.names.proofs.Keys.both.Reads as both-reads
 
 abbrev Inv-loop : tie.InvT-loop
-Inv-loop events rows reached₀ followed₀ turn₀ reached followed turn =
-    (turn ≤ 64) ×
-    ((e : ℕ) → e < keyCount → isIn events (key e) ≡ true → reached₀ ≡ withMark unmarked (key e) → Following rows events e turn reached followed)
+Inv-loop events rows followed₀ reached₀ to-follow₀ followed reached to-follow =
+    (members to-follow ≡ members reached ∖ members followed) ×
+    ((e : ℕ) → e < keyCount → isIn events (key e) ≡ true → reached₀ ≡ including (keys 0) (key e) → Following rows events e reached followed)
 
 abbrev μ-loop : tie.MeasureT-loop
-μ-loop events rows reached₀ followed₀ turn₀ reached followed turn = 64 - turn
+μ-loop events rows followed₀ reached₀ to-follow₀ followed reached to-follow = keyCount - count keyCount (members followed)
 
-unmarked-requires : tie.Need-unmarked-requires Inv-loop μ-loop
-unmarked-requires c κs = search needs
-
-with-mark-requires : tie.Need-with-mark-requires Inv-loop μ-loop
-with-mark-requires c κs = c .before .pre .0
+with-requires : tie.Need-with-requires Inv-loop μ-loop
+with-requires c κs = c .pre .0
 
 loop-holds : tie.Need-loop-holds Inv-loop μ-loop
-loop-holds c = (search needs, λ e l p q. rw (c .before .unmarked .ensures, q) (follow-first _ _ e l))
+loop-holds c = (next-first _, λ e l p q. follow-first _ _ e l _ q)
 
-next-of-requires : tie.Need-next-of-requires Inv-loop μ-loop
-next-of-requires c κs = search needs
+is-empty-requires : tie.Need-is-empty-requires Inv-loop μ-loop
+is-empty-requires c κs = search needs
 
-is-key-requires : tie.Need-is-key-requires Inv-loop μ-loop
-is-key-requires c κs = search needs
+highest-requires : tie.Need-highest-requires Inv-loop μ-loop
+highest-requires c κs = sym (c .before .is-empty .ensures) ∙ not-true _ (c .if1 .taken)
 
-returns : tie.Need-returns Inv-loop μ-loop
-returns c =
-    let w = c .before .before .before .before .loop .inv .1 _ (c .before .before .before .before .before .before .before .pre .0) (c .before .before .before .before .before .before .before .pre .1) (c .before .before .before .before .before .with-mark .ensures ∙ ap (λ (m : Marks). withMark m (c .before .before .before .before .before .before .before .args .e)) (c .before .before .before .before .before .before .unmarked .ensures)) in
-    follow-done _ _ _ (c .before .before .before .before .before .before .before .pre .0) (c .before .before .before .before .before .before .before .pre .1) _ _ _ w _ (c .before .before .next-of .ensures) (sym (c .before .is-key .ensures) ∙ not-true _ (c .if1 .taken))
-
-cast-i : tie.Need-cast-i Inv-loop μ-loop
-cast-i c = search needs
+cast-all : tie.Need-cast-all Inv-loop μ-loop
+cast-all c = search needs
 
 mul-all : tie.Need-mul-all Inv-loop μ-loop
 mul-all c = search needs
 
 array-copy-out-all : tie.Need-array-copy-out-all Inv-loop μ-loop
-array-copy-out-all c = ltb-true _ _ (sym (c .before .before .is-key .ensures) ∙ not-false _ (c .before .if1 .left))
+array-copy-out-all c = c .before .highest .ensures .below
 
 both-requires : tie.Need-both-requires Inv-loop μ-loop
 both-requires c κs = search needs
 
-with-mark-requires-2 : tie.Need-with-mark-requires-2 Inv-loop μ-loop
-with-mark-requires-2 c κs = ltb-true _ _ (sym (c .before .before .before .before .is-key .ensures) ∙ not-false _ (c .before .before .before .if1 .left))
+with-requires-2 : tie.Need-with-requires-2 Inv-loop μ-loop
+with-requires-2 c κs = c .before .before .before .highest .ensures .below
 
-with-row-requires : tie.Need-with-row-requires Inv-loop μ-loop
-with-row-requires c κs = search needs
+either-requires : tie.Need-either-requires Inv-loop μ-loop
+either-requires c κs = search needs
 
-add-turn : tie.Need-add-turn Inv-loop μ-loop
-add-turn c = search needs
+beside-requires : tie.Need-beside-requires Inv-loop μ-loop
+beside-requires c κs = search needs
 
 loop-less : tie.Need-loop-less Inv-loop μ-loop
-loop-less c = search needs
+loop-less c =
+    let l = c .before .before .before .before .before .before .before .before .before .loop in
+    next-fewer _ _ _ (l .inv .0) _ (c .before .before .before .before .before .before .highest .ensures) _ (c .before .before .with2 .ensures)
 
 loop-again : tie.Need-loop-again Inv-loop μ-loop
-loop-again c = (omega (arith, c .before .before .before .before .before .before .before .before .loop-test .taken), λ e l p q. follow-next _ _ e l p _ _ _ (c .before .before .before .before .before .before .before .before .before .loop .inv .1 e l p q) _ (c .before .before .before .before .before .before .before .next-of .ensures) (sym (c .before .before .before .before .before .before .is-key .ensures) ∙ not-false _ (c .before .before .before .before .before .if1 .left)) _ (c .before .before .both .ensures) _ _ (c .with-row .ensures) (c .before .with-mark2 .ensures))
+loop-again c =
+    let l = c .before .before .before .before .before .before .before .before .before .loop in
+    let h = c .before .before .before .before .before .before .highest .ensures in
+    let was = next-there _ _ _ (l .inv .0) _ h .0 in (
+      ap members (c .beside .ensures) ∙ members-beside _ _,
+      λ e b p q.
+          follow-next _ _ e b p _ _ (l .inv .1 e b p q) _ (h .below) was _ (c .before .before .before .both .ensures) _ _ (c .before .either .ensures)
+          (c .before .before .with2 .ensures),
+    )
 
-returns-2 : tie.Need-returns-2 Inv-loop μ-loop
-returns-2 c =
-    let w = c .before .loop .inv .1 _ (c .before .before .before .before .pre .0) (c .before .before .before .before .pre .1) (c .before .before .with-mark .ensures ∙ ap (λ (m : Marks). withMark m (c .before .before .before .before .args .e)) (c .before .before .before .unmarked .ensures)) in
-    follow-last _ _ _ (c .before .before .before .before .pre .0) (c .before .before .before .before .pre .1) _ _ _ w (c .loop-test .left)
+marks-of-requires : tie.Need-marks-of-requires Inv-loop μ-loop
+marks-of-requires c κs = search needs
+
+returns : tie.Need-returns Inv-loop μ-loop
+returns c =
+    let l = c .before .before .before .loop in
+    let pre = c .before .before .before .before .before .pre in
+    let w = l .inv .1 _ (pre .0) (pre .1) (c .before .before .before .before .with .ensures) in
+    let all = next-none _ _ _ (l .inv .0) (sym (c .before .before .is-empty .ensures) ∙ not-false _ (c .before .if1 .left)) in
+    follow-done _ _ _ (pre .0) (pre .1) _ _ w all _ (c .marks-of .ensures)
 
 pub dependents-spec : {M : Type 1} → statement M
 dependents-spec =
@@ -87,19 +87,18 @@ dependents-spec =
     (tie.spec
     Inv-loop
     μ-loop
-    unmarked-requires
-    with-mark-requires
+    with-requires
     loop-holds
-    next-of-requires
-    is-key-requires
-    returns
-    cast-i
+    is-empty-requires
+    highest-requires
+    cast-all
     mul-all
     array-copy-out-all
     both-requires
-    with-mark-requires-2
-    with-row-requires
-    add-turn
+    with-requires-2
+    either-requires
+    beside-requires
     loop-less
     loop-again
-    returns-2)
+    marks-of-requires
+    returns)

@@ -1,29 +1,26 @@
--- `last_of` meets its contract. The loop's invariant: the keys below `i` are still to be asked, and what they give is what all give. Assumes nothing.
-use mathlib.Core.Path.{_≡_, _∙_, sym, ap, refl}
-use Prim.Native.Nat.{_-_, _≤_}
-use native.Mathlib.Omega.{arith}
-use borrow.Author.Tests.{not-true}
-use Rattle.names.specs.Names.{keyCount, key}
-use Rattle.dependents.specs.Marks.{lastOf}
-use Rattle.dependents.specs.Lasts.{last-down, last-here, last-end}
+-- `last_of` meets its contract. The loop's invariant: what those still to be asked give is what all give. Assumes nothing.
+use mathlib.Core.Path.{_∙_, sym}
+use borrow.Author.Tests.{not-true, not-false}
+use Rattle.cycles.specs.Highest.{without-less}
+use Rattle.dependents.specs.Lasts.{Asking, asking-first, asking-here, asking-next, asking-done}
 use borrow.Author.Needs.{needs}
 use Rattle.dependents.proofs.last_of.Statement.{statement}
 use Rattle.dependents.proofs.last_of.Tie as tie
-use Rattle.dependents.proofs.last_of.Reads as reads
-use Rattle.dependents.proofs.last_of.Lts as lts
-use Rattle.dependents.proofs.is_last.Reads as is-last-reads
 
 abbrev Inv-loop : tie.InvT-loop
-Inv-loop left rows i₀ i = (i ≤ 64) × (lastOf rows i left ≡ lastOf rows keyCount left)
+Inv-loop left rows to-come₀ to-come = Asking rows left to-come
 
 abbrev μ-loop : tie.MeasureT-loop
-μ-loop left rows i₀ i = i
+μ-loop left rows to-come₀ to-come = to-come .0
 
 loop-holds : tie.Need-loop-holds Inv-loop μ-loop
-loop-holds c = (search needs, refl)
+loop-holds c = asking-first _ _
 
-sub-i : tie.Need-sub-i Inv-loop μ-loop
-sub-i c = search needs
+is-empty-requires : tie.Need-is-empty-requires Inv-loop μ-loop
+is-empty-requires c κs = search needs
+
+highest-requires : tie.Need-highest-requires Inv-loop μ-loop
+highest-requires c κs = sym (c .before .is-empty .ensures) ∙ not-true _ (c .if1 .taken)
 
 cast-row : tie.Need-cast-row Inv-loop μ-loop
 cast-row c = search needs
@@ -32,28 +29,29 @@ mul-row : tie.Need-mul-row Inv-loop μ-loop
 mul-row c = search needs
 
 array-copy-out-row : tie.Need-array-copy-out-row Inv-loop μ-loop
-array-copy-out-row c = search needs
+array-copy-out-row c = c .before .highest .ensures .below
 
-is-last-requires : tie.Need-is-last-requires Inv-loop μ-loop
-is-last-requires c κs = search needs
+none-after-requires : tie.Need-none-after-requires Inv-loop μ-loop
+none-after-requires c κs = search needs
 
 returns : tie.Need-returns Inv-loop μ-loop
 returns c =
-    let l = c .before .before .before .before .loop in
-    ap key (last-here _ (l .i) _ (c .before .before .before .loop-test .taken) (sym (c .before .is-last .ensures) ∙ c .if1 .taken) ∙ l .inv .1)
+    let w = c .before .before .before .before .before .before .before .loop .inv in
+    asking-here _ _ _ w _ (c .before .before .before .before .highest .ensures) (sym (c .before .none-after .ensures) ∙ c .if2 .taken)
+
+without-requires : tie.Need-without-requires Inv-loop μ-loop
+without-requires c κs = c .before .before .before .before .highest .ensures .below
 
 loop-less : tie.Need-loop-less Inv-loop μ-loop
-loop-less c = search needs
+loop-less c = without-less _ _ _ (c .before .before .before .before .before .highest .ensures) (c .without .ensures)
 
 loop-again : tie.Need-loop-again Inv-loop μ-loop
 loop-again c =
-    let l = c .before .before .before .before .loop in
-    (search needs, last-down _ (l .i) _ (c .before .before .before .loop-test .taken) (sym (c .before .is-last .ensures) ∙ c .if1 .left) ∙ l .inv .1)
+    let w = c .before .before .before .before .before .before .before .before .loop .inv in
+    asking-next _ _ _ w _ (c .before .before .before .before .before .highest .ensures) (sym (c .before .before .none-after .ensures) ∙ c .before .if2 .left) _ (c .without .ensures)
 
 returns-2 : tie.Need-returns-2 Inv-loop μ-loop
-returns-2 c =
-    let l = c .before .loop in
-    ap key (last-end _ (l .i) _ (omega arith) ∙ l .inv .1)
+returns-2 c = asking-done _ _ _ (c .before .before .loop .inv) (sym (c .before .is-empty .ensures) ∙ not-false _ (c .if1 .left))
 
 pub last-of-spec : {M : Type 1} → statement M
 last-of-spec =
@@ -62,12 +60,14 @@ last-of-spec =
     Inv-loop
     μ-loop
     loop-holds
-    sub-i
+    is-empty-requires
+    highest-requires
     cast-row
     mul-row
     array-copy-out-row
-    is-last-requires
+    none-after-requires
     returns
+    without-requires
     loop-less
     loop-again
     returns-2)
