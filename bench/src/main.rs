@@ -1,121 +1,223 @@
-//! Prints how many requests a second `rewind` answers beside the second
-//! program on the same streams, how long a call on lent bytes takes, and what
-//! it costs by the number of past events. It asserts nothing.
+//! Prints how many requests a second `rewind` answers beside the second program
+//! and the yardstick on the same streams, how long a call on lent bytes takes
+//! beside the yardstick's, what it costs by the number of past events, and how
+//! much stack it takes. It asserts nothing.
+//!
+//! In the columns, "faster" is how many times as fast the proved program is as
+//! the second one, and "slower" how many times the yardstick's time it takes.
 
 mod images;
+mod stack;
+mod yardstick;
 
 use images::{search, Images};
 use reference::program::rewind as second_rewind;
 use reference::random::Random;
 use rewind::call;
+use stack::stack_of_calls;
+use std::fs::File;
 use std::hint::black_box;
-use std::io::Write;
+use std::path::Path;
 use std::process::{Command, Stdio};
-use std::thread;
 use std::time::Instant;
+use yardstick::{file, Yardstick};
 
 const PROGRAM: &str = concat!(env!("CARGO_MANIFEST_DIR"), "/../target/bin/rewind");
-/// Requests of a stream for the proved program, and for the second one, which
-/// reads and accepts its images anew for each.
-const LONG: usize = 3_000_000;
-const SHORT: usize = 30_000;
+/// Requests of a stream for `rewind` and the yardstick, and for the second
+/// program, which reads and accepts its images anew for each.
+const LONG: usize = 2_000_000;
+const SHORT: usize = 20_000;
+/// Calls of one measurement.
+const CALLS: usize = 20_000;
+/// The yardstick does so many times as much in one measurement, so that it is
+/// watched for as long as the proved program.
+const OFTEN: usize = 10;
+/// Measurements are taken by turns and the best of each counts: what else runs
+/// on the machine only adds.
+const ROUNDS: usize = 5;
 
 fn stream(images: &Images, unit: &[u8], requests: usize) -> Vec<u8> {
     let turns = requests / (unit.len() / 6);
     [&images.script[..], &images.net, &unit.repeat(turns)].concat()
 }
 
-fn lines_of(text: &[u8]) -> usize {
-    text.iter().filter(|&&byte| byte == b'\n').count()
+/// `rewind`, or another that does the same.
+struct Program<'a> {
+    path: &'a Path,
+    words: &'a [&'a str],
 }
 
-/// Requests a second of the program, from its start to its last line.
-fn program_speed(input: Vec<u8>) -> f64 {
-    let began = Instant::now();
-    let mut child = Command::new(PROGRAM)
-        .stdin(Stdio::piped())
-        .stdout(Stdio::piped())
-        .spawn()
-        .expect("rt check builds target/bin/rewind");
-    let mut stdin = child.stdin.take().expect("a pipe");
-    let writer = thread::spawn(move || stdin.write_all(&input));
-    let output = child.wait_with_output().expect("rewind ends");
-    let _ = writer.join();
-    lines_of(&output.stdout) as f64 / began.elapsed().as_secs_f64()
+impl Program<'_> {
+    fn on(&self, stream: &Path) -> Command {
+        let mut command = Command::new(self.path);
+        let input = File::open(stream).expect("the stream");
+        command.args(self.words).stdin(input);
+        command
+    }
+
+    fn lines(&self, stream: &Path) -> String {
+        let output = self.on(stream).output();
+        let output = output.expect("rt check builds target/bin/rewind");
+        String::from_utf8_lossy(&output.stdout).into_owned()
+    }
+
+    /// Seconds from its start to its end, on average of some runs; its input is
+    /// a file, and nobody reads its output.
+    fn seconds(&self, stream: &Path, runs: usize) -> f64 {
+        let began = Instant::now();
+        for _ in 0..runs {
+            let status = self.on(stream).stdout(Stdio::null()).status();
+            status.expect("the program runs");
+        }
+        began.elapsed().as_secs_f64() / runs as f64
+    }
 }
 
-fn second_speed(input: &[u8]) -> f64 {
+/// The least of the one, and of the other where there is another.
+fn best(one: impl Fn() -> f64, other: impl Fn() -> Option<f64>) -> (f64, Option<f64>) {
+    let mut least = (one(), other());
+    for _ in 1..ROUNDS {
+        least.0 = least.0.min(one());
+        least.1 = least.1.zip(other()).map(|(least, again)| least.min(again));
+    }
+    least
+}
+
+/// A figure in its column, or a dash.
+fn column(figure: Option<f64>, width: usize, places: usize) -> String {
+    match figure {
+        Some(figure) => format!("{figure:width$.places$}"),
+        None => format!("{:>width$}", "-"),
+    }
+}
+
+/// What is measured: a net, and requests after which it is as it was.
+struct Sort<'a> {
+    name: &'a str,
+    images: &'a Images,
+    unit: &'a [u8],
+}
+
+fn sort<'a>(name: &'a str, images: &'a Images, unit: &'a [u8]) -> Sort<'a> {
+    Sort { name, images, unit }
+}
+
+impl Sort<'_> {
+    fn head(&self) -> String {
+        let (records, events) = (self.images.records(), self.images.events());
+        format!("{:34} {records:7} {events:6}", self.name)
+    }
+
+    /// A row of requests a second.
+    fn compare_programs(&self, yardstick: Option<&Yardstick>) {
+        let proved = Program {
+            path: Path::new(PROGRAM),
+            words: &[],
+        };
+        let yardstick = yardstick.map(|yardstick| Program {
+            path: &yardstick.program,
+            words: &["rewind"],
+        });
+        let short = stream(self.images, self.unit, SHORT);
+        let (second, second_lines) = second_speed(&short);
+        let short = file("bench.short", &short);
+        let mut programs = [Some(&proved), yardstick.as_ref()].into_iter().flatten();
+        let same = programs.all(|program| program.lines(&short) == second_lines);
+
+        let long = stream(self.images, self.unit, LONG);
+        let requests = (long.len() - stream(self.images, self.unit, 0).len()) as f64 / 6.0;
+        let long = file("bench.long", &long);
+        let (seconds, yardstick) = best(
+            || proved.seconds(&long, 1),
+            || Some(yardstick.as_ref()?.seconds(&long, OFTEN)),
+        );
+        println!(
+            "{} {:11.0} {second:8.0} {:8.0} {} {}{}",
+            self.head(),
+            requests / seconds,
+            requests / seconds / second,
+            column(yardstick.map(|least| requests / least), 11, 0),
+            column(yardstick.map(|least| seconds / least), 7, 1),
+            if same { "" } else { "  THEIR LINES DIFFER" }
+        );
+    }
+
+    /// A row of microseconds of a call.
+    fn compare_calls(&self, yardstick: Option<&Yardstick>) {
+        let (library, yardstick) = best(
+            || call_time(self.images, self.unit),
+            || Some(yardstick?.call_time(self.images, self.unit, OFTEN * CALLS)),
+        );
+        println!(
+            "{} {library:11.2} {} {}",
+            self.head(),
+            column(yardstick, 9, 2),
+            column(yardstick.map(|least| library / least), 7, 1)
+        );
+    }
+}
+
+/// Requests a second of the second program, and what it prints.
+fn second_speed(input: &[u8]) -> (f64, String) {
     let began = Instant::now();
     let run = second_rewind(input, &mut Random::new(1));
-    run.reports.len() as f64 / began.elapsed().as_secs_f64()
+    let speed = run.reports.len() as f64 / began.elapsed().as_secs_f64();
+    (speed, run.text())
 }
 
-fn compare(name: &str, images: &Images, unit: &[u8]) {
-    let proved = program_speed(stream(images, unit, LONG));
-    let second = second_speed(&stream(images, unit, SHORT));
-    println!(
-        "{name:34} {:3} {:3} {:12.0} {:12.0} {:8.1}",
-        images.records(),
-        images.events(),
-        proved,
-        second,
-        proved / second
-    );
-}
-
-/// Microseconds of a call that leaves the net as it was after the whole unit.
+/// Microseconds of a call of the static library.
 fn call_time(images: &Images, unit: &[u8]) -> f64 {
     let mut net = images.net.clone();
-    let requests = unit.len() / 6;
-    let turns = 200_000 / requests + 1;
     let began = Instant::now();
-    for _ in 0..turns {
-        for request in unit.chunks(6) {
-            black_box(call(&images.script, &mut net, request));
-        }
+    for request in unit.chunks(6).cycle().take(CALLS) {
+        black_box(call(&images.script, &mut net, request));
     }
-    began.elapsed().as_secs_f64() * 1e6 / (turns * requests) as f64
+    began.elapsed().as_secs_f64() * 1e6 / CALLS as f64
 }
 
 fn main() {
+    let compiled = Yardstick::compiled();
+    match &compiled {
+        Ok(yardstick) => println!("yardstick: {}, -O3", yardstick.compiler),
+        Err(why) => println!("no yardstick, for want of a C compiler ({why})"),
+    }
+    let yardstick = compiled.as_ref().ok();
     let half = |images: &Images| (30..=34).contains(&images.records()) && images.events() >= 10;
     let full = |images: &Images| images.records() >= 60 && images.events() >= 20;
     let (half_full, pair) = search(1, |i| half(i).then(|| i.there_and_back())?);
     let (nearly_full, full_pair) = search(2, |i| full(i).then(|| i.there_and_back())?);
     let (deep, rolled) = search(3, |i| i.rollback_and_again(30));
     let refused = [9, 0, 0, 0, 0, 0];
-    println!("requests a second              records events       rewind       second    ratio");
-    compare("forward and backward, half full", &half_full, &pair);
-    compare(
-        "forward and backward, nearly full",
-        &nearly_full,
-        &full_pair,
-    );
-    compare("a rollback of 30 and 30 forward", &deep, &rolled);
-    compare("refusals, half full", &half_full, &refused);
-    println!("\nmicroseconds of a call on lent bytes");
-    println!("step, half full    {:6.2}", call_time(&half_full, &pair));
-    println!(
-        "step, nearly full  {:6.2}",
-        call_time(&nearly_full, &full_pair)
-    );
-    println!(
-        "rollback of 30 and 30 forward, each  {:6.2}",
-        call_time(&deep, &rolled)
-    );
-    println!(
-        "refused with 3, half full  {:6.2}",
-        call_time(&half_full, &refused)
-    );
-    println!("\nmicroseconds of a refused call by the number of past events");
+    let sorts = [
+        sort("backward and forward, half full", &half_full, &pair),
+        sort(
+            "backward and forward, nearly full",
+            &nearly_full,
+            &full_pair,
+        ),
+        sort("a rollback of 30 and 30 forward", &deep, &rolled),
+        sort("refused with 3, half full", &half_full, &refused),
+    ];
+
+    println!("\nrequests a second                  records events      rewind   second   faster   yardstick  slower");
+    for sort in &sorts {
+        sort.compare_programs(yardstick);
+    }
+    println!("\nmicroseconds of a call             records events     library yardstick  slower");
+    for sort in &sorts {
+        sort.compare_calls(yardstick);
+    }
     for events in (0..=60).step_by(10) {
         let near = |i: &Images| (i.events().abs_diff(events) <= 1).then_some(());
         let (images, ()) = search(4, near);
+        sort("refused with 3", &images, &refused).compare_calls(yardstick);
+    }
+    println!("\nbytes of stack of a call           records events     library");
+    for sort in &sorts {
         println!(
-            "{:3} events, {:3} records  {:6.2}",
-            images.events(),
-            images.records(),
-            call_time(&images, &refused)
+            "{} {:11}",
+            sort.head(),
+            stack_of_calls(sort.images, sort.unit)
         );
     }
 }
