@@ -1,32 +1,38 @@
 -- The tests that the code makes of the net as a whole (`Whole`) are the theory's (`nets`, `Accepting`), of the net that the image holds; so
 -- what the code answers is the verdict.
 --
--- In order: tests together (`all-and`, `picked`, `either-both` and their kin); steps of the code's loops (`maker-missing`, `root-at`,
--- `consumed-tuple` and its kin); agreement (`agree-told`), by which events that use a tuple have its key (`used-told`); made and taken once
--- (`once-told`); tuples, localities and roots (`tuples-told`, `localities-told`, `roots-told`); dependence (`cycle-told`); the first clause that
--- fails (`firstOf`), and the code's answers, one by one (`verdict-..`).
+-- In order: tests together (`all-and`, `picked`, `either-both` and their kin); what the code looks at: two sets of localities (`shifted-same`), a root
+-- (`root-at`), a tuple (`consumed-tuple` and its kin); agreement (`agree-told`), by which events that use a tuple have its key (`used-told`); made
+-- and taken once (`once-told`); tuples, localities and roots (`tuples-told`, `localities-told`, `roots-told`); dependence (`cycle-told`); the first
+-- clause that fails (`firstOf`); arrays of a net that was taken apart (`whole-contents`, `whole-refs`); the code's answers, one by one
+-- (`verdict-..`).
 -- Assumes nothing.
-use Prim.Native.Nat.{ℕ, _<_, _≤_}
+use Prim.Native.Nat.{ℕ, _+_, _-_, _/_, _%_, _^_, _<_, _≤_}
+use native.Mathlib.Nat.{div-div-eq-div-mul, mul-comm}
 use mathlib.Core.Path.{_≡_, refl, ap, ap₂, sym, _∙_, subst, fun-ext}
 use mathlib.Core.Bool.{Bool, true, false, _&&_, _||_, not, and-true}
 use mathlib.Core.List.{List}
 use native.Mathlib.Omega.{arith}
 use lib.Dec.{eqb, ltb, leb}
-use borrow.Author.Tests.{eqb-true, eq-eqb, ne-eqb, ltb-true, ltb-false, lt-ltb, le-leb}
-use Rattle.laws.specs.Choice.{pick, cases, fails, and-left, and-right, and-both, agree, sameb, _⇒_, told}
+use lib.ListN.{length}
+use lib.Pow.{pow-add}
+use borrow.Author.Tests.{eqb-true, eq-eqb, ne-eqb, ltb-true, ltb-false, lt-ltb, le-leb, leb-true}
+use Rattle.laws.specs.Choice.{pick, cases, fails, and-left, and-right, and-both, agree, sameb, sameb-eq, _⇒_, told, tells}
+use Rattle.laws.specs.Lists.{length-tab}
 use Rattle.laws.specs.Checks.{all, all-of, all-at, all-ext}
-use Rattle.laws.specs.Sets.{member}
+use Rattle.laws.specs.Sets.{member, same-members}
 use Rattle.order.specs.KeySets.{_∈_, any}
 use Rattle.order.specs.Peeling.{acyclic}
-use Rattle.names.specs.Names.{keyCount, localityCount, key, locality}
+use Rattle.names.specs.Names.{keyCount, localityCount, nodeCount, key, locality}
 use Rattle.names.specs.Localities.{holds}
 use Rattle.names.specs.KeySets.{isIn}
 use Rattle.names.specs.declared.Keys.{Keys}
 use Rattle.names.specs.declared.Localities.{Localities}
 use Rattle.images.specs.Net.{slotAt, slotWith}
 use Rattle.images.specs.Net as I
-use Rattle.images.specs.Lookup.{slot-found}
-use Rattle.images.specs.Shape.{ShapedScript, ShapedNet}
+use Rattle.images.specs.Head.{byte, partAt}
+use Rattle.images.specs.Read.{datumOf, slotOf, scriptOf, netOf}
+use Rattle.images.specs.InPlace.{slot-part}
 use Rattle.images.specs.declared.Script.{Script}
 use Rattle.images.specs.declared.Slot as Image
 use Rattle.images.specs.declared.Net as Images
@@ -44,6 +50,7 @@ use Rattle.rules.specs.View.{view, view-slot, view-with, view-present, beyond, 
 use Rattle.agreement.specs.Agreement.{slotAgrees}
 use Rattle.agreement.specs.Agreed.{agrees-is}
 use Rattle.traces.specs.Traces.{deedsOf, deedAt, eventsOf, keysMade, localitiesMade, tuplesTaken, rowsOf}
+use Rattle.traces.specs.Marks.{whole-script}
 use Rattle.traces.specs.Traced.{Used, event-at, taken-at, events-in, keys-once, keys-in, localities-once, localities-in, taken-once, taken-in, edges-depend}
 use Rattle.traces.specs.declared.KeyMarks.{KeyMarks}
 use Rattle.traces.specs.declared.PlaceMarks.{PlaceMarks}
@@ -83,46 +90,82 @@ free-or : (f b : Bool) → pick f true b ≡ (not f ⇒ b)
 free-or true b = refl
 free-or false b = refl
 
--- ---- steps of the code's loops
+-- ---- what the code looks at
 
--- a locality 8..31 needs a maker, so a test that fails there fails
-pub maker-missing : (l : ℕ) → 8 ≤ l → l < 32 → {b : Bool} → b ≡ false → (makeable l ⇒ b) ≡ false
-maker-missing l low high e =
-    let m = and-both (leb 8 l) _ (le-leb 8 l low) (lt-ltb l 32 high) in
-    λ i. m i ⇒ e i
+-- the members of a word from 8 on are those of the word shifted down
+member-shifted : (w k : ℕ) → member (w / 2 ^ 8) k ≡ member w (k + 8)
+unfolding member
+member-shifted w k =
+    ap (λ (q : ℕ). eqb (q % 2) 1)
+    (div-div-eq-div-mul w (2 ^ 8) (2 ^ k) ∙ ap (λ (p : ℕ). w / p) (mul-comm (2 ^ 8) (2 ^ k) ∙ sym (pow-add 2 k 8)))
 
--- whether the key is made was found before
-pub root-at : (present : Localities) (m b r : Bool) (x : Image.Slot) → m ≡ b → r ≡ W.rootRight present m x → W.rootRight present b x ≡ r
-root-at present m b r x e h = ap (λ (c : Bool). W.rootRight present c x) (sym e) ∙ sym h
+-- so two words that are one once shifted down agree on the localities 8..31, and two that agree there are
+pub shifted-same : (present made : Localities) → present .0 < 2 ^ 32 → made .0 < 2 ^ 32 → eqb (present .0 / 2 ^ 8) (made .0 / 2 ^ 8) ≡ W.localitiesRight present made
+unfolding W.localitiesRight W.localityRight
+shifted-same present made p-fits m-fits =
+    agree (eqb high₁ high₂) (all localityCount right)
+    (λ t. all-of localityCount right (λ l _. tells (makeable l) _ (λ m. same-at l (leb-true 8 l (and-left (leb 8 l) _ m)) (eqb-true high₁ high₂ t))))
+    (λ t.
+    eq-eqb high₁ high₂
+    (same-members 24 high₁ high₂ (omega (arith, p-fits)) (omega (arith, m-fits))
+    (λ k l. member-shifted (present .0) k ∙ sameb-eq _ _ (told (makeable (k + 8)) _ (all-at localityCount right t (k + 8) (omega arith)) (made-from k l)) ∙ sym (member-shifted (made .0) k))))
+  where
+    high₁ : ℕ
+    high₁ = present .0 / 2 ^ 8
 
--- tuples, at a slot: a consumed one was taken; what an in took, as the code looked it up, is no live one; of any other slot nothing is asked
-module _ (ds : List ℕ) (n : Images.Net) (taken : Keys) (k : ℕ) where
-  abbrev x : Image.Slot
-  x = slotAt n k
+    high₂ : ℕ
+    high₂ = made .0 / 2 ^ 8
 
+    right : ℕ → Bool
+    right l = makeable l ⇒ sameb (member (present .0) l) (member (made .0) l)
+
+    made-from : (k : ℕ) → k < 24 → makeable (k + 8) ≡ true
+    made-from k l = and-both (leb 8 (k + 8)) _ (le-leb 8 (k + 8) (omega arith)) (lt-ltb (k + 8) 32 (omega arith))
+
+    same-self : (b : Bool) → sameb b b ≡ true
+    same-self true = refl
+    same-self false = refl
+
+    same-at : (l : ℕ) → 8 ≤ l → high₁ ≡ high₂ → sameb (member (present .0) l) (member (made .0) l) ≡ true
+    same-at l h e =
+        let k = l - 8 in
+        let is : k + 8 ≡ l = omega arith in
+        let one : member (present .0) l ≡ member (made .0) l =
+        ap (member (present .0)) (sym is) ∙ sym (member-shifted (present .0) k) ∙ ap (λ (w : ℕ). member w k) e ∙ member-shifted (made .0) k ∙ ap (member (made .0)) is in
+        ap (λ (b : Bool). sameb b (member (made .0) l)) one ∙ same-self (member (made .0) l)
+
+-- a root, at a slot that was looked up
+pub root-at : (n : Images.Net) (made : Keys) (k : ℕ) {present : Localities} {m r : Bool} {x : Image.Slot} → present ≡ n .present → x ≡ slotAt n k → m ≡ isIn made (key k)
+    → r ≡ W.rootRight present m x → W.rootRight (n .present) (isIn made (key k)) (slotAt n k) ≡ r
+root-at n made k is-p is-x is-m is-r = sym (is-r ∙ (λ i. W.rootRight (is-p i) (is-m i) (is-x i)))
+
+-- tuples, at a slot that was looked up: a consumed one was taken; what an in took is no live one; of any other slot nothing is asked
+module _ (ds : List ℕ) (n : Images.Net) (taken : Keys) (k : ℕ) {x : Image.Slot} (is : x ≡ slotAt n k) where
   abbrev tupleAt : Bool
-  tupleAt = W.tupleRight (deedAt ds k) (key k) x (slotWith n (x .used)) taken
+  tupleAt = W.tupleRight (deedAt ds k) (key k) (slotAt n k) (slotWith n (slotAt n k .used)) taken
 
   abbrev tookGone : Bool
-  tookGone = eqb (deedAt ds k) 2 ⇒ not (eqb (slotWith n (x .used) .kind) 3)
+  tookGone = eqb (deedAt ds k) 2 ⇒ not (eqb (slotWith n (slotAt n k .used) .kind) 3)
+
+  kind-is : slotAt n k .kind ≡ x .kind
+  kind-is = sym (ap (λ (y : Image.Slot). y .kind) is)
 
   pub consumed-tuple : {b r : Bool} → x .kind ≡ 4 → b ≡ isIn taken (key k) → b ≡ r → tupleAt ≡ r
   unfolding W.tupleRight
   consumed-tuple consumed answered is-r =
-      ap (λ (c : Bool). pick c (isIn taken (key k)) tookGone) (eq-eqb (x .kind) 4 consumed) ∙ sym answered ∙ is-r
+      ap (λ (c : Bool). pick c (isIn taken (key k)) tookGone) (eq-eqb (slotAt n k .kind) 4 (kind-is ∙ consumed)) ∙ sym answered ∙ is-r
 
   not-consumed : (x .kind ≡ 4 → ⊥) → tupleAt ≡ tookGone
   unfolding W.tupleRight
-  not-consumed other = ap (λ (c : Bool). pick c (isIn taken (key k)) tookGone) (ne-eqb (x .kind) 4 other)
+  not-consumed other = ap (λ (c : Bool). pick c (isIn taken (key k)) tookGone) (ne-eqb (slotAt n k .kind) 4 (λ e. other (sym kind-is ∙ e)))
 
   pub no-tuple : (x .kind ≡ 4 → ⊥) → (deedAt ds k ≡ 2 → ⊥) → tupleAt ≡ true
   no-tuple other no-in =
-      not-consumed other ∙ ap (λ (c : Bool). c ⇒ not (eqb (slotWith n (x .used) .kind) 3)) (ne-eqb (deedAt ds k) 2 no-in)
+      not-consumed other ∙ ap (λ (c : Bool). c ⇒ not (eqb (slotWith n (slotAt n k .used) .kind) 3)) (ne-eqb (deedAt ds k) 2 no-in)
 
-  pub taken-tuple : {u : ℕ} {t : Image.Slot} {live : Bool} → (x .kind ≡ 4 → ⊥) → deedAt ds k ≡ 2
-      → u ≡ I.indexOf (x .used) → t ≡ I.slotOr (x .used) (slotAt n u) → eqb (t .kind) 3 ≡ live → tupleAt ≡ not live
-  taken-tuple {u} {t} other by-in is-u is-t is-live =
-      let found : t ≡ slotWith n (x .used) = is-t ∙ slot-found n (x .used) (slotAt n u) (ap (slotAt n) is-u) in
+  pub taken-tuple : {t : Image.Slot} {live : Bool} → (x .kind ≡ 4 → ⊥) → deedAt ds k ≡ 2 → t ≡ slotWith n (x .used) → eqb (t .kind) 3 ≡ live → tupleAt ≡ not live
+  taken-tuple {t} other by-in is-t is-live =
+      let found : t ≡ slotWith n (slotAt n k .used) = is-t ∙ ap (λ (y : Image.Slot). slotWith n (y .used)) is in
       not-consumed other ∙ (λ i. eq-eqb (deedAt ds k) 2 by-in i ⇒ not (eqb (sym found i .kind) 3)) ∙ ap not is-live
 
 module _ (s : Script) (n : Images.Net) where
@@ -135,11 +178,10 @@ module _ (s : Script) (n : Images.Net) where
 
   -- ---- agreement
 
-  agree-told : ShapedScript s → ShapedNet n → all keyCount (slotAgrees s n) ≡ allAgree s seen
+  agree-told : length (s .nodes) ≡ nodeCount → ((i : ℕ) → i < keyCount → length (slotAt n i .contents) ≡ 8) → ((i : ℕ) → i < keyCount → length (slotAt n i .refs) ≡ 4) → all keyCount (slotAgrees s n) ≡ allAgree s seen
   unfolding allAgree
-  agree-told w v =
-      all-ext keyCount (slotAgrees s n) (λ e. events seen e ⇒ agreed sameBody seen e)
-      (agrees-is s n (w .nodes) (λ i l. v .at i l .contents) (λ i l. v .at i l .refs))
+  agree-told nodes eight four =
+      all-ext keyCount (slotAgrees s n) (λ e. events seen e ⇒ agreed sameBody seen e) (agrees-is s n nodes eight four)
 
   -- an event that agrees with its rule has its places
   event-placed : allAgree s seen ≡ true → (e : ℕ) → e ∈ events seen → placed (seen .slot e) ≡ true
@@ -270,14 +312,34 @@ firstOf agrees once tuples localities roots ordered =
     Verdict.Twice)
     Verdict.Disagrees
 
-module _ (s : Script) (n : Images.Net) (w : ShapedScript s) (v : ShapedNet n) (agrees : Bool) (tested : agrees ≡ all keyCount (slotAgrees s n)) where
+-- the slots of a net that was taken apart have their arrays whole
+whole-contents : (b : List ℕ) (i : ℕ) → i < keyCount → length (slotAt (netOf b) i .contents) ≡ 8
+unfolding slotOf
+whole-contents b i l =
+    ap (λ (x : Image.Slot). length (x .contents)) (sym (slot-part b i l)) ∙ length-tab 8 (datumOf (partAt 56 b i))
+
+whole-refs : (b : List ℕ) (i : ℕ) → i < keyCount → length (slotAt (netOf b) i .refs) ≡ 4
+unfolding slotOf
+whole-refs b i l =
+    ap (λ (x : Image.Slot). length (x .refs)) (sym (slot-part b i l)) ∙ length-tab 4 (λ j. key (byte (partAt 56 b i) (48 + j)))
+
+module _ (script net : List ℕ) (agrees : Bool) (tested : agrees ≡ all keyCount (slotAgrees (scriptOf script) (netOf net))) where
+  abbrev s : Script
+  s = scriptOf script
+
+  abbrev n : Images.Net
+  n = netOf net
+
+  by-agreement : all keyCount (slotAgrees s n) ≡ allAgree s (view s n)
+  by-agreement = agree-told s n (whole-script script) (whole-contents net) (whole-refs net)
+
   pub verdict-disagrees : agrees ≡ false → Verdict.Disagrees ≡ verdictOf s n
   unfolding verdict
-  verdict-disagrees h = rw (sym (agree-told s n w v) ∙ sym tested ∙ h)
+  verdict-disagrees h = rw (sym by-agreement ∙ sym tested ∙ h)
 
   module _ (yes : agrees ≡ true) (ds : List ℕ) (made : KeyMarks) (places : PlaceMarks) (taken : KeyMarks) (did : ds ≡ deedsOf s n) (keys-are : made ≡ keysMade n) (places-are : places ≡ localitiesMade ds n) (taken-are : taken ≡ tuplesTaken ds n) where
     all-agree : allAgree s (view s n) ≡ true
-    all-agree = sym (agree-told s n w v) ∙ sym tested ∙ yes
+    all-agree = sym by-agreement ∙ sym tested ∙ yes
 
     -- what the code found, by what the events did
     places-found : places ≡ localitiesMade (deedsOf s n) n
@@ -344,13 +406,17 @@ module _ (s : Script) (n : Images.Net) (w : ShapedScript s) (v : ShapedNet n) (a
           sym (λ i. firstOf true (once-all i) (h i) localitiesTest rootsTest orderTest) ∙
           by-tests b localitiesTest rootsTest e refl refl
 
-      pub verdict-locality : {b c : Bool} → b ≡ tuplesTest → b ≡ true → c ≡ localitiesTest → c ≡ false → Verdict.WrongLocality ≡ verdictOf s n
-      verdict-locality {b} {c} e h f k =
-          sym (λ i. firstOf true (once-all i) (h i) (k i) rootsTest orderTest) ∙ by-tests b c rootsTest e f refl
+      -- the present set was looked up
+      looked-up : {present : Localities} {c : Bool} → present ≡ n .present → c ≡ W.localitiesRight present (places .set) → c ≡ localitiesTest
+      looked-up there f = f ∙ ap (λ (l : Localities). W.localitiesRight l (places .set)) there
 
-      module _ {b c : Bool} (e : b ≡ tuplesTest) (h : b ≡ true) (f : c ≡ localitiesTest) (k : c ≡ true) where
+      pub verdict-locality : {present : Localities} {b c : Bool} → b ≡ tuplesTest → b ≡ true → present ≡ n .present → c ≡ W.localitiesRight present (places .set) → c ≡ false → Verdict.WrongLocality ≡ verdictOf s n
+      verdict-locality {b = b} {c = c} e h there f k =
+          sym (λ i. firstOf true (once-all i) (h i) (k i) rootsTest orderTest) ∙ by-tests b c rootsTest e (looked-up there f) refl
+
+      module _ {present : Localities} {b c : Bool} (e : b ≡ tuplesTest) (h : b ≡ true) (there : present ≡ n .present) (f : c ≡ W.localitiesRight present (places .set)) (k : c ≡ true) where
         pub verdict-root : {d : Bool} → d ≡ rootsTest → d ≡ false → Verdict.WrongRoot ≡ verdictOf s n
-        verdict-root {d} g q = sym (λ i. firstOf true (once-all i) (h i) (k i) (q i) orderTest) ∙ by-tests b c d e f g
+        verdict-root {d} g q = sym (λ i. firstOf true (once-all i) (h i) (k i) (q i) orderTest) ∙ by-tests b c d e (looked-up there f) g
 
         module _ {d : Bool} (g : d ≡ rootsTest) (q : d ≡ true) (evs : Keys) (rows : List Keys) (evs-are : evs ≡ eventsOf n) (rows-are : rows ≡ rowsOf ds n evs) where
           order-found : acyclic keyCount (edges rows evs) (members evs) ≡ orderTest
@@ -361,9 +427,9 @@ module _ (s : Script) (n : Images.Net) (w : ShapedScript s) (v : ShapedNet n) (a
           pub verdict-cycle : {o : Bool} → o ≡ acyclic keyCount (edges rows evs) (members evs) → o ≡ false → Verdict.Cycle ≡ verdictOf s n
           verdict-cycle u z =
               let order = sym order-found ∙ sym u ∙ z in
-              sym (λ i. firstOf true (once-all i) (h i) (k i) (q i) (order i)) ∙ by-tests b c d e f g
+              sym (λ i. firstOf true (once-all i) (h i) (k i) (q i) (order i)) ∙ by-tests b c d e (looked-up there f) g
 
           pub verdict-accepted : {o : Bool} → o ≡ acyclic keyCount (edges rows evs) (members evs) → o ≡ true → Verdict.Accepted ≡ verdictOf s n
           verdict-accepted u z =
               let order = sym order-found ∙ sym u ∙ z in
-              sym (λ i. firstOf true (once-all i) (h i) (k i) (q i) (order i)) ∙ by-tests b c d e f g
+              sym (λ i. firstOf true (once-all i) (h i) (k i) (q i) (order i)) ∙ by-tests b c d e (looked-up there f) g

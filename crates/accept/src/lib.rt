@@ -1,11 +1,13 @@
-// Which nets are accepted, for a script and a net that have their form. One function a clause, in the order of document 01's paragraph;
-// what events made and used is found once, and the last clause, that dependence has no cycle, asks the crate below.
+// Which nets are accepted, for images of a script and a net that have their form; both are looked at where they stand. One function a
+// clause, in the order of document 01's paragraph; what events made and used is found once, and the last clause, that dependence has no
+// cycle, asks the crate below.
 ghost use mathlib.Core.Path.{_≡_};
+ghost use lib.ListN.{length};
+ghost use Rattle.images.specs.Read.{scriptOf, netOf};
 ghost use Rattle.accept.specs.Verdict.{verdictOf};
 use agreement::events_agree;
 use cycles::has_no_cycle;
-use images::Net;
-use images::Script;
+use images::net_image::present_in;
 use traces::deeds_of;
 use traces::events_of;
 use traces::keys_made;
@@ -35,16 +37,17 @@ pub enum Verdict {
     Cycle,
 }
 
-pub fn accept(s: Script, n: Net) -> Verdict
-    ensures { λ r. ⌜ r ≡ verdictOf s n ⌝ }
+pub fn accept(script: &[u8], net: &[u8]) -> Verdict
+    requires { ⌜ (length (now script) ≡ 2064) × (length (now net) ≡ 3600) ⌝ }
+    ensures { λ r. ⌜ r ≡ verdictOf (scriptOf (now (script .entry))) (netOf (now (net .entry))) ⌝ }
 {
-    if !events_agree(s, n) {
+    if !events_agree(script, net) {
         return Verdict::Disagrees;
     }
-    let deeds = deeds_of(s, n);
-    let made = keys_made(n);
-    let places = localities_made(deeds, n);
-    let taken = tuples_taken(deeds, n);
+    let deeds = deeds_of(script, net);
+    let made = keys_made(net);
+    let places = localities_made(deeds, net);
+    let taken = tuples_taken(deeds, net);
     if !made.once {
         return Verdict::Twice;
     }
@@ -55,20 +58,20 @@ pub fn accept(s: Script, n: Net) -> Verdict
         return Verdict::Twice;
     }
     let taken_keys = taken.keys;
-    if !tuples_right(deeds, n, taken_keys) {
+    if !tuples_right(deeds, net, taken_keys) {
         return Verdict::WrongTuple;
     }
-    let present = n.present;
+    let present = present_in(net);
     let made_places = places.set;
     if !localities_right(present, made_places) {
         return Verdict::WrongLocality;
     }
     let made_keys = made.keys;
-    if !roots_right(n, made_keys) {
+    if !roots_right(net, made_keys) {
         return Verdict::WrongRoot;
     }
-    let events = events_of(n);
-    let rows = rows_of(deeds, n, events);
+    let events = events_of(net);
+    let rows = rows_of(deeds, net, events);
     if !has_no_cycle(rows, events) {
         return Verdict::Cycle;
     }

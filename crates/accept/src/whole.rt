@@ -1,13 +1,14 @@
 // Clauses about the net as a whole: tuples, localities and records that nobody made.
 ghost use mathlib.Core.Path.{_≡_};
-ghost use Prim.Native.Nat.{_<_};
-ghost use Rattle.accept.specs.Whole.{tuplesRight, localityRight, localitiesRight, rootRight, rootsRight};
+ghost use lib.ListN.{length};
+ghost use Rattle.images.specs.Read.{netOf};
+ghost use Rattle.accept.specs.Whole.{tuplesRight, localitiesRight, rootRight, rootsRight};
 use images::Action;
-use images::Net;
 use images::Slot;
-use images::net_image::index_of;
 use images::net_image::is_free;
-use images::net_image::slot_or_free;
+use images::net_image::present_in;
+use images::net_image::slot_at;
+use images::net_image::slot_in;
 use names::Key;
 use names::Keys;
 use names::Localities;
@@ -15,13 +16,14 @@ use names::Locality;
 use rules::is_rooted;
 
 // A consumed tuple was taken; what an in took is no live tuple. What a slot used is looked up only for an in.
-pub fn tuples_right(deeds: [u8; Key::COUNT], n: Net, taken: Keys) -> bool
-    ensures { λ r. ⌜ r ≡ tuplesRight deeds n taken ⌝ }
+pub fn tuples_right(deeds: [u8; Key::COUNT], net: &[u8], taken: Keys) -> bool
+    requires { ⌜ length (now net) ≡ 3600 ⌝ }
+    ensures { λ r. ⌜ r ≡ tuplesRight deeds (netOf (now (net .entry))) taken ⌝ }
 {
     let mut k: u8 = 0;
     while k < 64 {
         let i = k as usize;
-        let x = n.slots[i];
+        let x = slot_at(net, i);
         if x.kind == Slot::CONSUMED {
             if !taken.has(Key(k)) {
                 return false;
@@ -34,9 +36,7 @@ pub fn tuples_right(deeds: [u8; Key::COUNT], n: Net, taken: Keys) -> bool
             continue;
         }
         let used = x.used;
-        let u = index_of(used);
-        let at_used = n.slots[u];
-        let t = slot_or_free(used, at_used);
+        let t = slot_in(net, used);
         if t.kind == Slot::TUPLE {
             return false;
         }
@@ -45,28 +45,11 @@ pub fn tuples_right(deeds: [u8; Key::COUNT], n: Net, taken: Keys) -> bool
     true
 }
 
-fn locality_right(present: Localities, made: Localities, l: Locality) -> bool
-    requires { ⌜ l .0 < 32 ⌝ }
-    ensures { λ r. ⌜ r ≡ localityRight present made l ⌝ }
-{
-    if present.has(l) {
-        return made.has(l);
-    }
-    !made.has(l)
-}
-
-// Localities 8..31 are present exactly when made.
+// Localities 8..31 are present exactly when made: from bit 8 on the two sets are one.
 pub fn localities_right(present: Localities, made: Localities) -> bool
     ensures { λ r. ⌜ r ≡ localitiesRight present made ⌝ }
 {
-    let mut l: u8 = Locality::FIRST_MADE;
-    while l < 32 {
-        if !locality_right(present, made, Locality(l)) {
-            return false;
-        }
-        l += 1;
-    }
-    true
+    present.0 >> Locality::FIRST_MADE == made.0 >> Locality::FIRST_MADE
 }
 
 // A record that nobody made lives at a present locality 0..7, names only such ones, and holds no reference.
@@ -89,13 +72,14 @@ fn root_right(present: Localities, made: bool, x: Slot) -> bool
     present.has(l)
 }
 
-pub fn roots_right(n: Net, made: Keys) -> bool
-    ensures { λ r. ⌜ r ≡ rootsRight n made ⌝ }
+pub fn roots_right(net: &[u8], made: Keys) -> bool
+    requires { ⌜ length (now net) ≡ 3600 ⌝ }
+    ensures { λ r. ⌜ r ≡ rootsRight (netOf (now (net .entry))) made ⌝ }
 {
-    let present = n.present;
+    let present = present_in(net);
     let mut k: u8 = 0;
     while k < 64 {
-        let x = n.slots[k as usize];
+        let x = slot_at(net, k as usize);
         let by_event = made.has(Key(k));
         if !root_right(present, by_event, x) {
             return false;

@@ -40,7 +40,7 @@ use Rattle.rules.specs.Acts.{acts-is, uses-is, aims-is, newloc-is, there-is}
 use Rattle.rules.specs.Instance.{actOf, makeable, rulesOf, next}
 use Rattle.rules.specs.View.{kindAs, past-is, slotView, view, view-slot, view-with, view-present}
 use Rattle.rules.specs.Same.{sameList, sameDatum, sameKey, sameBody}
-use Rattle.agreement.specs.Agreement.{placedBy, tupleFits, ruledBy, sameData, sameRefs, sameRecord, standsAs, secondStands, productsStand, agreesAt, slotAgrees}
+use Rattle.agreement.specs.Agreement.{placedBy, tupleFits, ruledBy, sameData, sameRefs, sameRecord, standsAs, firstStands, secondStands, productsStand, agreesBy, agreesAt, slotAgrees}
 
 -- ---- conjunctions that stop early
 
@@ -331,7 +331,7 @@ module _ (s : Script) (n : Images.Net) (x : Image.Slot) where
     abbrev standsAt : ℕ → Bool
     standsAt j = sameSlot {R = rulesOf s} sameBody (forget (seen .slot j)) (product k (slotView s x) (met seen (slotView s x) .body) j)
 
-    first-stands : standsAs (slotWith n (x .first)) (liveProcess (continuedBy a (key k) (bodyOf x) (t .contents) (x .place))) 2 ≡ standsAt (x .first .0)
+    first-stands : firstStands a (key k) x t (slotWith n (x .first)) ≡ standsAt (x .first .0)
     unfolding product
     first-stands =
         let made = continuedBy a (key k) (bodyOf x) (t .contents) (x .place) in
@@ -400,7 +400,7 @@ module _ (s : Script) (n : Images.Net) (x : Image.Slot) where
     -- ---- the event as a whole
 
     event-is : length (s .nodes) ≡ nodeCount → isPast (kindAs (x .kind)) ≡ true → agreesAt s n (key k) x ≡ agreedBy s n k (slotView s x)
-    unfolding agreesAt
+    unfolding agreesAt agreesBy
     event-is nodes past =
         let right = ruledBy a (n .present) x t in
         let stand = productsStand a (key k) x t (slotWith n (x .first)) (slotWith n (x .second)) in

@@ -1,7 +1,8 @@
 -- An event, its rule and what it made, as the code tests them on slots. Nothing here must be believed: `Agreed` proves these tests to be the
 -- theory's (`nets`, `Accepting`).
--- In order: the places of an event (`placedBy`); its rule (`tupleFits`, `ruledBy`); what it made (`standsAs`, `productsStand`);
--- an event that agrees, from what stands beside it (`agreesBy`) and in a net (`agreesAt`), and a slot that agrees if it holds one (`slotAgrees`).
+-- In order: the places of an event (`placedBy`); its rule (`tupleFits`, `ruledBy`); what it made (`standsAs`; `firstStands` and `secondStands`,
+-- together `productsStand`); an event that agrees, from what stands beside it (`agreesBy`) and in a net (`agreesAt`), and a slot that agrees if
+-- it holds one (`slotAgrees`).
 -- Assumes nothing.
 use Prim.Native.Nat.{ℕ}
 use mathlib.Core.Bool.{Bool, _&&_, _||_, not}
@@ -10,8 +11,7 @@ use lib.Dec.{eqb}
 use lib.ListN.{getD}
 use Rattle.laws.specs.Choice.{pick, _⇒_}
 use Rattle.laws.specs.Checks.{all}
-use Rattle.names.specs.Names.{none, key, isKey, isNode, isLocality, locality}
-use Rattle.names.specs.Localities.{holds}
+use Rattle.names.specs.Names.{none, key, isKey, isNode, locality}
 use Rattle.names.specs.declared.Key.{Key}
 use Rattle.names.specs.declared.Locality.{Locality}
 use Rattle.names.specs.declared.Localities.{Localities}
@@ -77,13 +77,16 @@ sameRecord x y =
 unfoldable pub standsAs : Slot → Slot → ℕ → Bool
 standsAs x made since = sameRecord x made && pick (eqb (x .kind) (made .kind)) (madeAre none x) (eqb (x .kind) since)
 
+-- the continuation, from the fields of the tuple that was used
+abbrev pub firstStands : Action → Key → Slot → Slot → Slot → Bool
+firstStands a k x t first = standsAs first (liveProcess (continuedBy a k (bodyOf x) (t .contents) (x .place))) 2
+
 unfoldable pub secondStands : Action → Slot → Slot → Bool
 secondStands a x second =
     makesSecond (a .kind) ⇒ pick (isOut (a .kind)) (standsAs second (secondSlot a (bodyOf x)) 4) (standsAs second (secondSlot a (bodyOf x)) 2)
 
 unfoldable pub productsStand : Action → Key → Slot → Slot → Slot → Slot → Bool
-productsStand a k x t first second =
-    standsAs first (liveProcess (continuedBy a k (bodyOf x) (t .contents) (x .place))) 2 && secondStands a x second
+productsStand a k x t first second = firstStands a k x t first && secondStands a x second
 
 -- ---- the events of a net
 
@@ -94,8 +97,7 @@ agreesBy a present k x t first second = ruledBy a present x t && productsStand a
 unfoldable pub agreesAt : Script → Net → Key → Slot → Bool
 agreesAt s n k x =
     isNode (x .node) &&
-    (ruledBy (actionAt s (x .node .0)) (n .present) x (slotWith n (x .used)) &&
-    productsStand (actionAt s (x .node .0)) k x (slotWith n (x .used)) (slotWith n (x .first)) (slotWith n (x .second)))
+    agreesBy (actionAt s (x .node .0)) (n .present) k x (slotWith n (x .used)) (slotWith n (x .first)) (slotWith n (x .second))
 
 -- a slot that holds no event has nothing to agree with
 unfoldable pub slotAgrees : Script → Net → ℕ → Bool

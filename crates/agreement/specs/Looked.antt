@@ -1,49 +1,71 @@
--- What the code finds of a slot is what the test of the slot in its net speaks of: that it holds no event (`no-event`), or what it looks up for
--- its event (`looked-up`).
+-- What the code finds of a slot is what the test of the slot in its net speaks of. An event agrees or not by the answers to its tests, in
+-- their order (`rule-fails`, `first-fails`, `second-tells`); a slot agrees where it holds no event (`no-event`), and else as its event does
+-- (`event-told`).
 -- Assumes nothing.
 use Prim.Native.Nat.{ℕ}
 use mathlib.Core.Path.{_≡_, ap, sym, _∙_}
-use mathlib.Core.Bool.{Bool, true}
+use mathlib.Core.Bool.{Bool, true, false, _&&_}
 use borrow.Author.Tests.{eq-eqb, ne-eqb}
 use Rattle.laws.specs.Choice.{cases, _⇒_}
 use Rattle.names.specs.Names.{key, isNode}
-use Rattle.images.specs.Script.{actionAt}
-use Rattle.images.specs.Net.{slotAt, indexOf, slotOr, slotWith}
-use Rattle.images.specs.Read.{nodeIndex, nodeOr, nodeWith}
-use Rattle.images.specs.Lookup.{slot-found, node-found}
+use Rattle.names.specs.declared.Key.{Key}
+use Rattle.images.specs.Net.{slotAt, slotWith}
+use Rattle.images.specs.Read.{nodeWith}
 use Rattle.images.specs.declared.Action.{Action}
 use Rattle.images.specs.declared.Script.{Script}
 use Rattle.images.specs.declared.Slot.{Slot}
 use Rattle.images.specs.declared.Net.{Net}
-use Rattle.agreement.specs.Agreement.{ruledBy, agreesBy, agreesAt, slotAgrees}
+use Rattle.agreement.specs.Agreement.{ruledBy, firstStands, secondStands, productsStand, agreesBy, agreesAt, slotAgrees}
 
-module _ (s : Script) (n : Net) (k : ℕ) where
-  abbrev x : Slot
-  x = slotAt n k
+-- a node that is none does nothing
+node-by : (s : Script) (n : Net) (k : Key) (x : Slot) → agreesBy (nodeWith s (x .node)) (n .present) k x (slotWith n (x .used)) (slotWith n (x .first)) (slotWith n (x .second)) ≡ agreesAt s n k x
+unfolding agreesBy agreesAt ruledBy
+node-by s n k x = cases (isNode (x .node)) (λ h. rw h) (λ h. rw h)
 
+-- ---- an event x and its node a, as they were looked up
+
+module _ (s : Script) (n : Net) (k : Key) {x : Slot} {a : Action} (is-x : x ≡ slotAt n (k .0)) (is-a : a ≡ nodeWith s (x .node)) where
+  abbrev rule : Bool
+  rule = ruledBy a (n .present) x (slotWith n (x .used))
+
+  abbrev first : Bool
+  first = firstStands a k x (slotWith n (x .used)) (slotWith n (x .first))
+
+  abbrev second : Bool
+  second = secondStands a x (slotWith n (x .second))
+
+  looked-up : (rule && (first && second)) ≡ agreesAt s n k (slotAt n (k .0))
+  unfolding agreesBy productsStand
+  looked-up =
+      ap (λ (c : Action). agreesBy c (n .present) k x (slotWith n (x .used)) (slotWith n (x .first)) (slotWith n (x .second))) is-a ∙
+      node-by s n k x ∙
+      ap (agreesAt s n k) is-x
+
+  pub rule-fails : {b : Bool} → b ≡ rule → b ≡ false → agreesAt s n k (slotAt n (k .0)) ≡ false
+  rule-fails is-b fails = sym looked-up ∙ ap (λ (b : Bool). b && (first && second)) (sym is-b ∙ fails)
+
+  after-rule : {b : Bool} → b ≡ rule → b ≡ true → agreesAt s n k (slotAt n (k .0)) ≡ (first && second)
+  after-rule is-b holds = sym looked-up ∙ ap (λ (b : Bool). b && (first && second)) (sym is-b ∙ holds)
+
+  pub first-fails : {b c : Bool} → b ≡ rule → b ≡ true → c ≡ first → c ≡ false → agreesAt s n k (slotAt n (k .0)) ≡ false
+  first-fails is-b holds is-c fails = after-rule is-b holds ∙ ap (λ (c : Bool). c && second) (sym is-c ∙ fails)
+
+  pub second-tells : {b c d : Bool} → b ≡ rule → b ≡ true → c ≡ first → c ≡ true → d ≡ second → agreesAt s n k (slotAt n (k .0)) ≡ d
+  second-tells is-b holds is-c stands is-d = after-rule is-b holds ∙ ap (λ (c : Bool). c && second) (sym is-c ∙ stands) ∙ sym is-d
+
+-- ---- a slot x, as it was looked up
+
+module _ (s : Script) (n : Net) (k : ℕ) {x : Slot} (is-x : x ≡ slotAt n k) where
   -- a slot that holds no event agrees
   pub no-event : (x .kind ≡ 2 → ⊥) → slotAgrees s n k ≡ true
   unfolding slotAgrees
-  no-event idle = ap (λ (b : Bool). b ⇒ agreesAt s n (key k) x) (ne-eqb (x .kind) 2 idle)
+  no-event idle =
+      ap (λ (b : Bool). b ⇒ agreesAt s n (key k) (slotAt n k)) (ne-eqb (slotAt n k .kind) 2 (λ e. idle (ap (λ (y : Slot). y .kind) is-x ∙ e)))
 
-  -- a node that is none does nothing
-  node-by : agreesBy (nodeWith s (x .node)) (n .present) (key k) x (slotWith n (x .used)) (slotWith n (x .first)) (slotWith n (x .second)) ≡ agreesAt s n (key k) x
-  unfolding agreesBy agreesAt ruledBy
-  node-by = cases (isNode (x .node)) (λ h. rw h) (λ h. rw h)
-
-  -- an event agrees as the code's calls answered: the node and the slots at the places that were looked up, and the test of them
-  pub looked-up : {p u f g : ℕ} {a : Action} {t v w : Slot} {b r : Bool} → x .kind ≡ 2
-      → p ≡ nodeIndex (x .node) → u ≡ indexOf (x .used) → f ≡ indexOf (x .first) → g ≡ indexOf (x .second)
-      → a ≡ nodeOr (x .node) (actionAt s p) → t ≡ slotOr (x .used) (slotAt n u) → v ≡ slotOr (x .first) (slotAt n f) → w ≡ slotOr (x .second) (slotAt n g)
-      → b ≡ agreesBy a (n .present) (key k) x t v w → b ≡ r → slotAgrees s n k ≡ r
+  -- a slot that holds one agrees as its event does
+  pub event-told : {b r : Bool} → x .kind ≡ 2 → b ≡ agreesAt s n (key k) (slotAt n k) → b ≡ r → slotAgrees s n k ≡ r
   unfolding slotAgrees
-  looked-up {p} {u} {f} {g} {a} {t} {v} {w} event is-p is-u is-f is-g is-a is-t is-v is-w answered is-r =
-      let the-node : a ≡ nodeWith s (x .node) = is-a ∙ node-found s (x .node) (actionAt s p) (ap (actionAt s) is-p) in
-      let the-tuple : t ≡ slotWith n (x .used) = is-t ∙ slot-found n (x .used) (slotAt n u) (ap (slotAt n) is-u) in
-      let the-first : v ≡ slotWith n (x .first) = is-v ∙ slot-found n (x .first) (slotAt n f) (ap (slotAt n) is-f) in
-      let the-second : w ≡ slotWith n (x .second) = is-w ∙ slot-found n (x .second) (slotAt n g) (ap (slotAt n) is-g) in
-      ap (λ (b : Bool). b ⇒ agreesAt s n (key k) x) (eq-eqb (x .kind) 2 event) ∙
-      sym node-by ∙
-      sym (λ i. agreesBy (the-node i) (n .present) (key k) x (the-tuple i) (the-first i) (the-second i)) ∙
-      sym answered ∙
+  event-told event is-b is-r =
+      ap (λ (b : Bool). b ⇒ agreesAt s n (key k) (slotAt n k)) (eq-eqb (slotAt n k .kind) 2 (sym (ap (λ (y : Slot). y .kind) is-x) ∙ event)) ∙
+      sym is-b ∙
       is-r

@@ -1,22 +1,22 @@
 // An event and its rule: the rule applies, and what the event made is what the rule makes, but for what happened to it since.
 ghost use mathlib.Core.Path.{_≡_};
+ghost use Prim.Native.Nat.{_<_};
+ghost use lib.ListN.{length};
 ghost use Rattle.laws.specs.Checks.{all};
 ghost use Rattle.names.specs.Names.{keyCount};
-ghost use Rattle.agreement.specs.Agreement.{keyNeeded, placeNeeded, placedBy, isTuple, tupleFits, ruledBy, sameData, sameRefs, sameRecord, standsAs, secondStands, productsStand, agreesBy, slotAgrees};
+ghost use Rattle.images.specs.Net.{slotAt, slotWith};
+ghost use Rattle.images.specs.Read.{netOf, scriptOf};
+ghost use Rattle.agreement.specs.Agreement.{keyNeeded, placeNeeded, placedBy, isTuple, tupleFits, ruledBy, sameData, sameRefs, sameRecord, standsAs, firstStands, secondStands, agreesAt, slotAgrees};
 use images::Action;
 use images::Datum;
-use images::Net;
-use images::Script;
 use images::Slot;
-use images::net_image::index_of;
 use images::net_image::made_are;
-use images::net_image::slot_or_free;
-use images::script_image::node_index;
-use images::script_image::node_or_nil;
-use matching::Match;
-use matching::match_tuple;
+use images::net_image::present_in;
+use images::net_image::slot_at;
+use images::net_image::slot_in;
+use images::script_image::node_in;
+use matching::template_meets;
 use names::Key;
-use names::Localities;
 use names::Locality;
 use names::NONE;
 use names::Reference;
@@ -100,16 +100,12 @@ fn tuple_fits(a: Action, vars: [Datum; Variable::COUNT], l: Locality, t: Slot) -
         return false;
     }
     let fields = t.contents;
-    let m = match_tuple(vars, a, t.count, fields);
-    let answer = m.answer;
-    match answer {
-        Match::Matches => true,
-        Match::Differs => false,
-    }
+    template_meets(vars, a, t.count, fields)
 }
 
-fn rule_applies(a: Action, present: Localities, x: Slot, t: Slot) -> bool
-    ensures { λ r. ⌜ r ≡ ruledBy a present x t ⌝ }
+fn rule_applies(a: Action, x: Slot, net: &[u8]) -> bool
+    requires { ⌜ length (now net) ≡ 3600 ⌝ }
+    ensures { λ r. ⌜ r ≡ ruledBy a (netOf (now (net .entry)) .present) x (slotWith (netOf (now (net .entry))) (x .used)) ⌝ }
 {
     if !is_step(a.kind) {
         return false;
@@ -122,12 +118,15 @@ fn rule_applies(a: Action, present: Localities, x: Slot, t: Slot) -> bool
         return false;
     };
     let l = target_of(a, vars);
+    let present = present_in(net);
     if !target_there(a.kind, present, l) {
         return false;
     }
     if !meets_tuple(a.kind) {
         return true;
     }
+    let used = x.used;
+    let t = slot_in(net, used);
     tuple_fits(a, vars, l, t)
 }
 
@@ -202,12 +201,31 @@ fn stands_as(x: Slot, made: Slot, since: u8) -> bool
     x.kind == since
 }
 
-fn second_stands(a: Action, x: Slot, second: Slot) -> bool
-    ensures { λ r. ⌜ r ≡ secondStands a x second ⌝ }
+// What follows the event, from the fields of the tuple that it used.
+fn first_stands(a: Action, k: Key, x: Slot, net: &[u8]) -> bool
+    requires { ⌜ length (now net) ≡ 3600 ⌝ }
+    ensures { λ r. ⌜ r ≡ firstStands a k x (slotWith (netOf (now (net .entry))) (x .used)) (slotWith (netOf (now (net .entry))) (x .first)) ⌝ }
+{
+    let used = x.used;
+    let t = slot_in(net, used);
+    let fields = t.contents;
+    let place = x.place;
+    let next = continuation(a, k, x, fields, place);
+    let one = x.first;
+    let first = slot_in(net, one);
+    stands_as(first, next, Slot::PAST)
+}
+
+// The second thing made, where the kind makes one.
+fn second_stands(a: Action, x: Slot, net: &[u8]) -> bool
+    requires { ⌜ length (now net) ≡ 3600 ⌝ }
+    ensures { λ r. ⌜ r ≡ secondStands a x (slotWith (netOf (now (net .entry))) (x .second)) ⌝ }
 {
     if !makes_second(a.kind) {
         return true;
     }
+    let two = x.second;
+    let second = slot_in(net, two);
     let made = second_made(a, x);
     if a.kind == Action::OUT {
         return stands_as(second, made, Slot::CONSUMED);
@@ -215,67 +233,38 @@ fn second_stands(a: Action, x: Slot, second: Slot) -> bool
     stands_as(second, made, Slot::PAST)
 }
 
-fn products_stand(a: Action, k: Key, x: Slot, t: Slot, first: Slot, second: Slot) -> bool
-    ensures { λ r. ⌜ r ≡ productsStand a k x t first second ⌝ }
-{
-    let fields = t.contents;
-    let place = x.place;
-    let next = continuation(a, k, x, fields, place);
-    if !stands_as(first, next, Slot::PAST) {
-        return false;
-    }
-    second_stands(a, x, second)
-}
-
 // ---- the events of a net
 
-// The event x with this key agrees with its rule. Beside it stand its node, and what is at the keys that it used and made.
-fn event_agrees(
-    a: Action,
-    present: Localities,
-    k: Key,
-    x: Slot,
-    t: Slot,
-    first: Slot,
-    second: Slot,
-) -> bool
-    ensures { λ r. ⌜ r ≡ agreesBy a present k x t first second ⌝ }
+// The event with this key agrees with its rule.
+fn event_agrees(script: &[u8], net: &[u8], k: Key) -> bool
+    requires { ⌜ (length (now script) ≡ 2064) × (length (now net) ≡ 3600) × (k .0 < 64) ⌝ }
+    ensures { λ r. ⌜ r ≡ agreesAt (scriptOf (now (script .entry))) (netOf (now (net .entry))) k (slotAt (netOf (now (net .entry))) (k .0)) ⌝ }
 {
-    if !rule_applies(a, present, x, t) {
+    let x = slot_at(net, k.0 as usize);
+    let node = x.node;
+    let a = node_in(script, node);
+    if !rule_applies(a, x, net) {
         return false;
     }
-    products_stand(a, k, x, t, first, second)
+    if !first_stands(a, k, x, net) {
+        return false;
+    }
+    second_stands(a, x, net)
 }
 
-// Each past record and what it made agree with its rule. A slot that holds no event is passed over before anything is looked up for it.
-pub fn events_agree(s: Script, n: Net) -> bool
-    ensures { λ r. ⌜ r ≡ all keyCount (slotAgrees s n) ⌝ }
+// Each past record and what it made agree with its rule. Of a slot that holds no event only the kind is looked at.
+pub fn events_agree(script: &[u8], net: &[u8]) -> bool
+    requires { ⌜ (length (now script) ≡ 2064) × (length (now net) ≡ 3600) ⌝ }
+    ensures { λ r. ⌜ r ≡ all keyCount (slotAgrees (scriptOf (now (script .entry))) (netOf (now (net .entry)))) ⌝ }
 {
-    let present = n.present;
     let mut k: u8 = 0;
     while k < 64 {
-        let x = n.slots[k as usize];
+        let x = slot_at(net, k as usize);
         if x.kind != Slot::PAST {
             k += 1;
             continue;
         }
-        let node = x.node;
-        let p = node_index(node);
-        let action = s.nodes[p];
-        let a = node_or_nil(node, action);
-        let used = x.used;
-        let u = index_of(used);
-        let at_used = n.slots[u];
-        let t = slot_or_free(used, at_used);
-        let one = x.first;
-        let f = index_of(one);
-        let at_first = n.slots[f];
-        let first = slot_or_free(one, at_first);
-        let two = x.second;
-        let g = index_of(two);
-        let at_second = n.slots[g];
-        let second = slot_or_free(two, at_second);
-        if !event_agrees(a, present, Key(k), x, t, first, second) {
+        if !event_agrees(script, net, Key(k)) {
             return false;
         }
         k += 1;

@@ -3,12 +3,12 @@
 // absent locality. Each of the last four prints a line.
 use libc::STDIN_FILENO;
 use libc::STDOUT_FILENO;
-use machine::Told;
 use machine::asks::find;
 use machine::asks::free_key;
 use machine::asks::free_locality;
 use machine::call;
 use requests::Answer;
+use requests::Told;
 use requests::number;
 
 // Room for a script or a net.

@@ -2,3 +2,4 @@
 pub mod Highest
 pub mod Cycles
 pub mod Laws
+pub mod Following

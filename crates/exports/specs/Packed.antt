@@ -5,7 +5,7 @@
 use Prim.Native.Nat.{ℕ, _+_, _*_}
 use Rattle.requests.specs.Requests.{number}
 use Rattle.finder.specs.declared.Found.{Found}
-use Rattle.machine.specs.declared.Told.{Told}
+use Rattle.requests.specs.declared.Told.{Told}
 use Rattle.machine.specs.declared.asks.FoundLocality.{FoundLocality}
 
 abbrev pub packed : ℕ → ℕ → ℕ → ℕ

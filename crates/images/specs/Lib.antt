@@ -8,5 +8,7 @@ pub mod Lookup
 pub mod Layout
 pub mod Shape
 pub mod Round
+pub mod InPlace
+pub mod Formed
 pub mod Reading
 pub mod Examples

@@ -1,6 +1,6 @@
 // The head of an image: its mark, its version, a word of its own, and a word that is 0.
 ghost use mathlib.Core.Path.{_≡_};
-ghost use Prim.Native.Nat.{_≤_, _<_};
+ghost use Prim.Native.Nat.{_≤_};
 ghost use lib.ListN.{length};
 ghost use Rattle.images.specs.Head.{headFormed, headBytes, restZero};
 

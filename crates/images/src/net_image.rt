@@ -9,9 +9,10 @@ ghost use Rattle.laws.specs.Lists.{tab};
 ghost use Rattle.laws.specs.Parts.{flat};
 ghost use Rattle.laws.specs.Words.{word};
 ghost use Rattle.names.specs.Names.{key, node};
-ghost use Rattle.images.specs.Head.{byte, partAt, restZero, pairBytes};
-ghost use Rattle.images.specs.Net.{datum0, isTuple, nodeOrCount, firstBytes, slotBytes, netBytes, netWritten, writtenInto, isUnset, isSet, isDatum, variablesInRange, fieldOrBlank, dataFill, madeAre, refsAre, madeInRange, refsInRange, freeInRange, processInRange, tupleInRange, slotInRange, freeSlot, indexOf, slotOr, slotWith, isFree};
-ghost use Rattle.images.specs.Read.{datumOf, slotOf, slotsFormed, netOf, goodNet, badNet, readNet};
+ghost use Rattle.images.specs.Head.{byte};
+ghost use Rattle.images.specs.Net.{datum0, isTuple, nodeOrCount, firstBytes, slotBytes, netBytes, netWritten, writtenInto, isUnset, isSet, isDatum, variablesInRange, fieldOrBlank, dataFill, madeAre, refsAre, madeInRange, refsInRange, freeInRange, processInRange, tupleInRange, slotInRange, freeSlot, indexOf, slotOr, slotWith, slotAt, isFree};
+ghost use Rattle.images.specs.InPlace.{slotPut, presentPut};
+ghost use Rattle.images.specs.Read.{datumOf, slotOf, slotFormed, slotsFormed, netOf, netFormed, badNet, readNet};
 use super::Datum;
 use super::Form;
 use super::Net;
@@ -135,20 +136,6 @@ fn is_datum(d: Datum) -> bool
     is_set(d)
 }
 
-fn variables_in_range(contents: [Datum; Variable::COUNT]) -> bool
-    ensures { λ r. ⌜ r ≡ variablesInRange contents ⌝ }
-{
-    let mut j: usize = 0;
-    while j < Variable::COUNT {
-        let d = contents[j];
-        if !is_datum(d) {
-            return false;
-        }
-        j += 1;
-    }
-    true
-}
-
 fn field_or_blank(count: u8, j: u8, d: Datum) -> bool
     ensures { λ r. ⌜ r ≡ fieldOrBlank count j d ⌝ }
 {
@@ -156,21 +143,6 @@ fn field_or_blank(count: u8, j: u8, d: Datum) -> bool
         return is_set(d);
     }
     is_unset(d)
-}
-
-// The first so many are set, and the others blank.
-fn data_fill(count: u8, contents: [Datum; Variable::COUNT]) -> bool
-    ensures { λ r. ⌜ r ≡ dataFill count contents ⌝ }
-{
-    let mut j: u8 = 0;
-    while j < 8 {
-        let d = contents[j as usize];
-        if !field_or_blank(count, j, d) {
-            return false;
-        }
-        j += 1;
-    }
-    true
 }
 
 // What a slot made and used is this byte four times: 255 where nothing is held, and 0 in a free slot.
@@ -201,32 +173,16 @@ pub fn refs_are(b: u8, refs: [Key; Reference::COUNT]) -> bool
     true
 }
 
-fn made_in_range(s: Slot) -> bool
-    ensures { λ r. ⌜ r ≡ madeInRange s ⌝ }
-{
-    let first = s.first;
-    if !first.is_key_or_none() {
-        return false;
-    }
-    let second = s.second;
-    if !second.is_key_or_none() {
-        return false;
-    }
-    let used = s.used;
-    if !used.is_key_or_none() {
-        return false;
-    }
-    let place = s.place;
-    place.is_locality_or_none()
-}
+// ---- the form of a slot, looked at where it stands: p is its 56 bytes
 
-fn refs_in_range(refs: [Key; Reference::COUNT]) -> bool
-    ensures { λ r. ⌜ r ≡ refsInRange refs ⌝ }
+fn variables_in_range(p: &[u8]) -> bool
+    requires { ⌜ length (now p) ≡ 56 ⌝ }
+    ensures { λ r. ⌜ r ≡ variablesInRange (slotOf (now (p .entry)) .contents) ⌝ }
 {
     let mut j: usize = 0;
-    while j < Reference::COUNT {
-        let k = refs[j];
-        if !k.is_key_or_none() {
+    while j < Variable::COUNT {
+        let d = datum_of(p, j);
+        if !is_datum(d) {
             return false;
         }
         j += 1;
@@ -234,123 +190,203 @@ fn refs_in_range(refs: [Key; Reference::COUNT]) -> bool
     true
 }
 
-fn free_in_range(s: Slot) -> bool
-    ensures { λ r. ⌜ r ≡ freeInRange s ⌝ }
+// The first so many are set, and the others blank.
+fn data_fill(count: u8, p: &[u8]) -> bool
+    requires { ⌜ length (now p) ≡ 56 ⌝ }
+    ensures { λ r. ⌜ r ≡ dataFill count (slotOf (now (p .entry)) .contents) ⌝ }
 {
-    if s.locality.0 != 0 {
-        return false;
+    let mut j: u8 = 0;
+    while j < 8 {
+        let d = datum_of(p, j as usize);
+        if !field_or_blank(count, j, d) {
+            return false;
+        }
+        j += 1;
     }
-    if s.node.0 != 0 {
-        return false;
-    }
-    if s.count != 0 {
-        return false;
-    }
-    if !made_are(0, s) {
-        return false;
-    }
-    let refs = s.refs;
-    if !refs_are(0, refs) {
-        return false;
-    }
-    let contents = s.contents;
-    data_fill(0, contents)
+    true
 }
 
-fn process_in_range(s: Slot) -> bool
-    ensures { λ r. ⌜ r ≡ processInRange s ⌝ }
+// What the slot made and used is this byte four times.
+fn makes_only(b: u8, p: &[u8]) -> bool
+    requires { ⌜ length (now p) ≡ 56 ⌝ }
+    ensures { λ r. ⌜ r ≡ madeAre b (slotOf (now (p .entry))) ⌝ }
 {
-    let locality = s.locality;
+    if p[3] != b {
+        return false;
+    }
+    if p[4] != b {
+        return false;
+    }
+    if p[5] != b {
+        return false;
+    }
+    p[6] == b
+}
+
+// Every reference of the slot is this byte.
+fn refers_only(b: u8, p: &[u8]) -> bool
+    requires { ⌜ length (now p) ≡ 56 ⌝ }
+    ensures { λ r. ⌜ r ≡ refsAre b (slotOf (now (p .entry)) .refs) ⌝ }
+{
+    if p[48] != b {
+        return false;
+    }
+    if p[49] != b {
+        return false;
+    }
+    if p[50] != b {
+        return false;
+    }
+    p[51] == b
+}
+
+fn made_in_range(p: &[u8]) -> bool
+    requires { ⌜ length (now p) ≡ 56 ⌝ }
+    ensures { λ r. ⌜ r ≡ madeInRange (slotOf (now (p .entry))) ⌝ }
+{
+    let first = Key(p[3]);
+    if !first.is_key_or_none() {
+        return false;
+    }
+    let second = Key(p[4]);
+    if !second.is_key_or_none() {
+        return false;
+    }
+    let used = Key(p[5]);
+    if !used.is_key_or_none() {
+        return false;
+    }
+    let place = Locality(p[6]);
+    place.is_locality_or_none()
+}
+
+fn refs_in_range(p: &[u8]) -> bool
+    requires { ⌜ length (now p) ≡ 56 ⌝ }
+    ensures { λ r. ⌜ r ≡ refsInRange (slotOf (now (p .entry)) .refs) ⌝ }
+{
+    let one = Key(p[48]);
+    if !one.is_key_or_none() {
+        return false;
+    }
+    let two = Key(p[49]);
+    if !two.is_key_or_none() {
+        return false;
+    }
+    let three = Key(p[50]);
+    if !three.is_key_or_none() {
+        return false;
+    }
+    let four = Key(p[51]);
+    four.is_key_or_none()
+}
+
+fn free_in_range(p: &[u8]) -> bool
+    requires { ⌜ (length (now p) ≡ 56) × (byte (now p) 0 ≡ 0) ⌝ }
+    ensures { λ r. ⌜ r ≡ freeInRange (slotOf (now (p .entry))) ⌝ }
+{
+    if p[1] != 0 {
+        return false;
+    }
+    if p[2] != 0 {
+        return false;
+    }
+    if !makes_only(0, p) {
+        return false;
+    }
+    if !refers_only(0, p) {
+        return false;
+    }
+    data_fill(0, p)
+}
+
+fn process_in_range(p: &[u8]) -> bool
+    requires { ⌜ (length (now p) ≡ 56) × (byte (now p) 0 < 3) ⌝ }
+    ensures { λ r. ⌜ r ≡ processInRange (slotOf (now (p .entry))) ⌝ }
+{
+    let locality = Locality(p[1]);
     if !locality.is_locality() {
         return false;
     }
-    let node = s.node;
+    let node = Node(p[2]);
     if !node.is_node() {
         return false;
     }
-    if s.count != 0 {
+    if !refs_in_range(p) {
         return false;
     }
-    let refs = s.refs;
-    if !refs_in_range(refs) {
-        return false;
-    }
-    let contents = s.contents;
-    variables_in_range(contents)
+    variables_in_range(p)
 }
 
-fn tuple_in_range(s: Slot) -> bool
-    ensures { λ r. ⌜ r ≡ tupleInRange s ⌝ }
+fn tuple_in_range(p: &[u8]) -> bool
+    requires { ⌜ (length (now p) ≡ 56) × (3 ≤ byte (now p) 0) ⌝ }
+    ensures { λ r. ⌜ r ≡ tupleInRange (slotOf (now (p .entry))) ⌝ }
 {
-    let locality = s.locality;
+    let locality = Locality(p[1]);
     if !locality.is_locality() {
         return false;
     }
-    if s.node.0 != 0 {
+    let count = p[2];
+    if count < 1 {
         return false;
     }
-    if s.count < 1 {
+    if 4 < count {
         return false;
     }
-    if 4 < s.count {
+    if !makes_only(NONE, p) {
         return false;
     }
-    if !made_are(NONE, s) {
+    if !refers_only(NONE, p) {
         return false;
     }
-    let refs = s.refs;
-    if !refs_are(NONE, refs) {
-        return false;
-    }
-    let contents = s.contents;
-    data_fill(s.count, contents)
+    data_fill(count, p)
 }
 
-fn slot_in_range(s: Slot) -> bool
-    ensures { λ r. ⌜ r ≡ slotInRange s ⌝ }
+fn slot_in_range(p: &[u8]) -> bool
+    requires { ⌜ length (now p) ≡ 56 ⌝ }
+    ensures { λ r. ⌜ r ≡ slotInRange (slotOf (now (p .entry))) ⌝ }
 {
-    if s.kind == Slot::FREE {
-        return free_in_range(s);
+    let kind = p[0];
+    if kind == Slot::FREE {
+        return free_in_range(p);
     }
-    if s.kind == Slot::LIVE {
-        if !made_are(NONE, s) {
+    if kind == Slot::LIVE {
+        if !makes_only(NONE, p) {
             return false;
         }
-        return process_in_range(s);
+        return process_in_range(p);
     }
-    if s.kind == Slot::PAST {
-        if !made_in_range(s) {
+    if kind == Slot::PAST {
+        if !made_in_range(p) {
             return false;
         }
-        return process_in_range(s);
+        return process_in_range(p);
     }
-    if Slot::CONSUMED < s.kind {
+    if Slot::CONSUMED < kind {
         return false;
     }
-    tuple_in_range(s)
+    tuple_in_range(p)
 }
 
-// ---- reading
+// The bytes that no slot uses, and the range.
+fn slot_formed(p: &[u8]) -> bool
+    requires { ⌜ length (now p) ≡ 56 ⌝ }
+    ensures { λ r. ⌜ r ≡ slotFormed (now (p .entry)) ⌝ }
+{
+    if !rest_is_zero(p, SLOT_SIZE) {
+        return false;
+    }
+    slot_in_range(p)
+}
+
+// ---- a slot of an image
 
 // Slot i of an image.
-fn slot_at(b: &[u8], i: usize) -> Slot
+pub fn slot_at(b: &[u8], i: usize) -> Slot
     requires { ⌜ (length (now b) ≡ 3600) × (i < 64) ⌝ }
-    ensures { λ r. ⌜ r ≡ slotOf (partAt 56 (now (b .entry)) i) ⌝ }
+    ensures { λ r. ⌜ r ≡ slotAt (netOf (now (b .entry))) i ⌝ }
 {
     let at = 16 + SLOT_SIZE * i;
     slot_of(&b[at..at + SLOT_SIZE])
-}
-
-// Slot i of an image, which is read as s: the bytes that no slot uses, and the range.
-fn slot_formed(b: &[u8], i: usize, s: Slot) -> bool
-    requires { ⌜ (length (now b) ≡ 3600) × (i < 64) ⌝ }
-    ensures { λ r. ⌜ r ≡ (restZero 56 (partAt 56 (now (b .entry)) i) && slotInRange s) ⌝ }
-{
-    let at = 16 + SLOT_SIZE * i;
-    if !rest_is_zero(&b[at..at + SLOT_SIZE], SLOT_SIZE) {
-        return false;
-    }
-    slot_in_range(s)
 }
 
 pub fn free_slot() -> Slot
@@ -394,17 +430,6 @@ pub fn slot_or_free(k: Key, x: Slot) -> Slot
     free_slot()
 }
 
-// The slot with this key; where there is no such key, nothing is held.
-pub fn slot_with(n: Net, k: Key) -> Slot
-    ensures { λ r. ⌜ r ≡ slotWith n k ⌝ }
-{
-    if k.is_key() {
-        let i = k.0 as usize;
-        return n.slots[i];
-    }
-    free_slot()
-}
-
 // Whether the slot holds no record. A kind that is none's counts as free; no image that was read has one.
 pub fn is_free(s: Slot) -> bool
     ensures { λ r. ⌜ r ≡ isFree s ⌝ }
@@ -414,6 +439,48 @@ pub fn is_free(s: Slot) -> bool
     }
     Slot::CONSUMED < s.kind
 }
+
+// ---- in place
+
+// The slot with this key in an image; where there is no such key, nothing is held.
+pub fn slot_in(b: &[u8], k: Key) -> Slot
+    requires { ⌜ length (now b) ≡ 3600 ⌝ }
+    ensures { λ r. ⌜ r ≡ slotWith (netOf (now (b .entry))) k ⌝ }
+{
+    if k.is_key() {
+        return slot_at(b, k.0 as usize);
+    }
+    free_slot()
+}
+
+// The localities that are present in an image.
+pub fn present_in(b: &[u8]) -> Localities
+    requires { ⌜ length (now b) ≡ 3600 ⌝ }
+    ensures { λ r. ⌜ r ≡ netOf (now (b .entry)) .present ⌝ }
+{
+    Localities(laws::word_at(b, 8))
+}
+
+// The slot is written at its key; where there is no such key, nothing is.
+pub fn put_slot(k: Key, x: Slot, d: &mut [u8])
+    requires { ⌜ length (now d) ≡ 3600 ⌝ }
+    ensures { λ _. ⌜ now (d .exit) ≡ slotPut k x (now (d .entry)) ⌝ }
+{
+    if !k.is_key() {
+        return;
+    }
+    let at = 16 + SLOT_SIZE * k.0 as usize;
+    write_slot(x, &mut d[at..at + SLOT_SIZE]);
+}
+
+pub fn put_present(p: Localities, d: &mut [u8])
+    requires { ⌜ length (now d) ≡ 3600 ⌝ }
+    ensures { λ _. ⌜ now (d .exit) ≡ presentPut p (now (d .entry)) ⌝ }
+{
+    laws::write_word(p.0, &mut d[8..12]);
+}
+
+// ---- the whole image
 
 fn refused() -> NetRead
     ensures { λ r. ⌜ r ≡ badNet ⌝ }
@@ -429,40 +496,62 @@ fn refused() -> NetRead
     }
 }
 
-fn read_slots(b: &[u8]) -> NetRead
+fn slots_formed(b: &[u8]) -> bool
     requires { ⌜ length (now b) ≡ 3600 ⌝ }
-    ensures { λ r. ⌜ r ≡ pick (slotsFormed (now (b .entry))) (goodNet (netOf (now (b .entry)))) badNet ⌝ }
+    ensures { λ r. ⌜ r ≡ slotsFormed (now (b .entry)) ⌝ }
+{
+    let mut i: usize = 0;
+    while i < Key::COUNT {
+        let at = 16 + SLOT_SIZE * i;
+        if !slot_formed(&b[at..at + SLOT_SIZE]) {
+            return false;
+        }
+        i += 1;
+    }
+    true
+}
+
+// Whether any byte string is the writing of a net in range.
+pub fn net_formed(b: &[u8]) -> bool
+    ensures { λ r. ⌜ r ≡ netFormed (now (b .entry)) ⌝ }
+{
+    if b.len() != SIZE {
+        return false;
+    }
+    if !head_formed(b, b'N') {
+        return false;
+    }
+    slots_formed(b)
+}
+
+// What an image holds.
+fn net_of(b: &[u8]) -> Net
+    requires { ⌜ length (now b) ≡ 3600 ⌝ }
+    ensures { λ r. ⌜ r ≡ netOf (now (b .entry)) ⌝ }
 {
     let blank = free_slot();
     let mut slots = [blank; Key::COUNT];
     let mut i: usize = 0;
     while i < Key::COUNT {
-        let s = slot_at(b, i);
-        if !slot_formed(b, i, s) {
-            return refused();
-        }
-        slots[i] = s;
+        slots[i] = slot_at(b, i);
         i += 1;
     }
-    let present = Localities(laws::word_at(b, 8));
-    let net = Net { present, slots };
-    NetRead {
-        form: Form::Good,
-        net,
-    }
+    let present = present_in(b);
+    Net { present, slots }
 }
 
 // Any byte string: the net that it is the writing of, or a refusal.
 pub fn read_net(b: &[u8]) -> NetRead
     ensures { λ r. ⌜ r ≡ readNet (now (b .entry)) ⌝ }
 {
-    if b.len() != SIZE {
+    if !net_formed(b) {
         return refused();
     }
-    if !head_formed(b, b'N') {
-        return refused();
+    let net = net_of(b);
+    NetRead {
+        form: Form::Good,
+        net,
     }
-    read_slots(b)
 }
 
 // ---- writing, a part after the other

@@ -1,12 +1,11 @@
 // The script image, taken apart: 64 nodes, each held to the row of its kind.
 ghost use mathlib.Core.Path.{_≡_};
-ghost use Prim.Native.Nat.{_<_, _≤_};
-ghost use lib.ListN.{length, getD};
-ghost use mathlib.Core.Bool.{_&&_};
-ghost use Rattle.laws.specs.Choice.{pick};
-ghost use Rattle.images.specs.Head.{partAt, restZero};
+ghost use Prim.Native.Nat.{_<_};
+ghost use lib.ListN.{length};
+ghost use mathlib.Core.Bool.{true, _&&_};
+ghost use Rattle.images.specs.Head.{partAt};
 ghost use Rattle.images.specs.Script.{rowOf, nodeInPlace, targetInPlace, referenceInPlace, fieldInRange, isBlank, countInPlace, fieldInPlace, fieldsInPlace, sameFormal, freshFormal, formalsDistinct, placesInRow, fieldsInRow, actionInRange};
-ghost use Rattle.images.specs.Read.{fieldOf, actionOf, nodesFormed, scriptOf, nilAction, nodeIndex, nodeOr, nodeWith, goodScript, badScript, readScript};
+ghost use Rattle.images.specs.Read.{fieldOf, actionOf, actionFormed, nodesFormed, scriptOf, scriptFormed, nilAction, nodeIndex, nodeOr, nodeWith, badScript, readScript};
 use super::Action;
 use super::Field;
 use super::Form;
@@ -312,7 +311,45 @@ fn action_in_range(a: Action) -> bool
     fields_in_row(r, a)
 }
 
-// ---- the image
+// ---- the form of a node, looked at where it stands: p is its 32 bytes
+
+// Whether a node is nil, by its words: most nodes of a script are.
+fn is_nil(p: &[u8]) -> bool
+    requires { ⌜ length (now p) ≡ 32 ⌝ }
+    ensures { λ r. ⌜ ((r ≡ true) → (actionFormed (now (p .entry)) ≡ true)) ⌝ }
+{
+    if laws::word_at(p, 0) != 0 {
+        return false;
+    }
+    if laws::word_at(p, 4) != laws::word_of(0, NONE, 0, 0) {
+        return false;
+    }
+    let mut j: usize = 2;
+    while j < 8 {
+        if laws::word_at(p, 4 * j) != 0 {
+            return false;
+        }
+        j += 1;
+    }
+    true
+}
+
+// The bytes that no node uses, and the range.
+fn action_formed(p: &[u8]) -> bool
+    requires { ⌜ length (now p) ≡ 32 ⌝ }
+    ensures { λ r. ⌜ r ≡ actionFormed (now (p .entry)) ⌝ }
+{
+    if is_nil(p) {
+        return true;
+    }
+    if !rest_is_zero(p, NODE_SIZE) {
+        return false;
+    }
+    let a = action_of(p);
+    action_in_range(a)
+}
+
+// ---- a node of an image
 
 // Node i of an image.
 fn action_at(b: &[u8], i: usize) -> Action
@@ -321,18 +358,6 @@ fn action_at(b: &[u8], i: usize) -> Action
 {
     let at = 16 + NODE_SIZE * i;
     action_of(&b[at..at + NODE_SIZE])
-}
-
-// Node i of an image, which is read as a: the bytes that no node uses, and the range.
-fn action_formed(b: &[u8], i: usize, a: Action) -> bool
-    requires { ⌜ (length (now b) ≡ 2064) × (i < 64) ⌝ }
-    ensures { λ r. ⌜ r ≡ (restZero 32 (partAt 32 (now (b .entry)) i) && actionInRange a) ⌝ }
-{
-    let at = 16 + NODE_SIZE * i;
-    if !rest_is_zero(&b[at..at + NODE_SIZE], NODE_SIZE) {
-        return false;
-    }
-    action_in_range(a)
 }
 
 fn nil() -> Action
@@ -369,16 +394,18 @@ pub fn node_or_nil(k: Node, a: Action) -> Action
     nil()
 }
 
-// The node of this number; where there is no such node, nil.
-pub fn node_with(s: Script, k: Node) -> Action
-    ensures { λ r. ⌜ r ≡ nodeWith s k ⌝ }
+// The node of this number in an image; where there is no such node, nil.
+pub fn node_in(b: &[u8], k: Node) -> Action
+    requires { ⌜ length (now b) ≡ 2064 ⌝ }
+    ensures { λ r. ⌜ r ≡ nodeWith (scriptOf (now (b .entry))) k ⌝ }
 {
     if k.is_node() {
-        let i = k.0 as usize;
-        return s.nodes[i];
+        return action_at(b, k.0 as usize);
     }
     nil()
 }
+
+// ---- the whole image
 
 fn refused() -> ScriptRead
     ensures { λ r. ⌜ r ≡ badScript ⌝ }
@@ -393,40 +420,62 @@ fn refused() -> ScriptRead
     }
 }
 
-fn read_nodes(b: &[u8]) -> ScriptRead
+fn nodes_formed(b: &[u8]) -> bool
     requires { ⌜ length (now b) ≡ 2064 ⌝ }
-    ensures { λ r. ⌜ r ≡ pick (nodesFormed (now (b .entry))) (goodScript (scriptOf (now (b .entry)))) badScript ⌝ }
+    ensures { λ r. ⌜ r ≡ nodesFormed (now (b .entry)) ⌝ }
+{
+    let mut i: usize = 0;
+    while i < Node::COUNT {
+        let at = 16 + NODE_SIZE * i;
+        if !action_formed(&b[at..at + NODE_SIZE]) {
+            return false;
+        }
+        i += 1;
+    }
+    true
+}
+
+// Whether any byte string is the writing of a script in range.
+pub fn script_formed(b: &[u8]) -> bool
+    ensures { λ r. ⌜ r ≡ scriptFormed (now (b .entry)) ⌝ }
+{
+    if b.len() != SIZE {
+        return false;
+    }
+    if !head_formed(b, b'S') {
+        return false;
+    }
+    if laws::word_at(b, 8) != 0 {
+        return false;
+    }
+    nodes_formed(b)
+}
+
+// What an image holds.
+fn script_of(b: &[u8]) -> Script
+    requires { ⌜ length (now b) ≡ 2064 ⌝ }
+    ensures { λ r. ⌜ r ≡ scriptOf (now (b .entry)) ⌝ }
 {
     let blank = nil();
     let mut nodes = [blank; Node::COUNT];
     let mut i: usize = 0;
     while i < Node::COUNT {
-        let a = action_at(b, i);
-        if !action_formed(b, i, a) {
-            return refused();
-        }
-        nodes[i] = a;
+        nodes[i] = action_at(b, i);
         i += 1;
     }
-    let script = Script { nodes };
-    ScriptRead {
-        form: Form::Good,
-        script,
-    }
+    Script { nodes }
 }
 
 // Any byte string: the script that it is the writing of, or a refusal.
 pub fn read_script(b: &[u8]) -> ScriptRead
     ensures { λ r. ⌜ r ≡ readScript (now (b .entry)) ⌝ }
 {
-    if b.len() != SIZE {
+    if !script_formed(b) {
         return refused();
     }
-    if !head_formed(b, b'S') {
-        return refused();
+    let script = script_of(b);
+    ScriptRead {
+        form: Form::Good,
+        script,
     }
-    if laws::word_at(b, 8) != 0 {
-        return refused();
-    }
-    read_nodes(b)
 }

@@ -9,8 +9,8 @@
 use Prim.Native.Nat.{ℕ}
 use mathlib.Core.Path.{_≡_, refl, sym, _∙_}
 use mathlib.Core.List.{List}
+use Rattle.requests.specs.declared.Told.{Told}
 use Rattle.machine.specs.Calls.{reply}
-use Rattle.machine.specs.declared.Told.{Told}
 
 -- what a call leaves: its result (answer and numbers), and all that was lent to it
 pub record Outcome (R B : Type 0) : Type 0 where

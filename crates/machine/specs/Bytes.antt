@@ -52,9 +52,8 @@ use Rattle.requests.specs.declared.RequestRead.the-variants as RequestRead
 use Rattle.requests.specs.declared.Answer.{Answer}
 use Rattle.requests.specs.declared.Answer.the-variants as Answer
 use Rattle.step.specs.Laws.{done-number}
-use Rattle.rollback.specs.Rollback.{Good, rollAnswer}
+use Rattle.rollback.specs.Rollback.{Good, Outcome, rollAnswer}
 use Rattle.rollback.specs.Checked.{roll-event, roll-held}
-use Rattle.rollback.specs.declared.Outcome.{Outcome}
 use Rattle.machine.specs.Written.{bytes-net}
 use Rattle.machine.specs.After.{Kept, kept-of, forward-kept, undo-kept, rollback-kept}
 use Rattle.machine.specs.Calls.{isGood, scriptIn, netIn, goodScript, goodNet, imageAnswer, toldBy, served, Reply, told, refusedWith, afterwards, replyTo, reply}

@@ -1,24 +1,23 @@
 -- The code of a call against its definition: what each part of it knows.
--- In order: which verdict accepts (`accepts`), and the answer of two forms and of acceptance (`answerBy`); what a contract says of a reply (`Replies`), and the
--- lent bytes after an outcome (`left-no`, `written-yes`); a
--- request that is read is in range (`read-in-range`), one that is not is refused (`request-bad`), one that is read is served (`request-good`); reading answers
--- only what is in range (`script-range`, `net-range`); the verdict is acceptance (`accepts-tested`), so the answer is the definition's (`taken-range`, `taken-is`);
--- images whose answer is done are good (`images-good`, `good-images`); the call (`call-refused`, `call-good`, `call-done`).
+-- In order: which verdict accepts (`accepts`); what a contract says of a reply (`Replies`); a request that is read is in range (`read-in-range`), one that is
+-- not is refused (`request-bad`), one that is read is served (`request-good`); reading answers only what is in range (`script-range`, `net-range`); the verdict
+-- is acceptance (`accepts-tested`), so the answer is the definition's (`image-no-script`, `image-no-net`, `image-sizes`, `image-by`, `taken-is`); images whose
+-- answer is done are good (`images-good`, `good-images`); a call on good images (`good-replies`), and any call (`call-refused`, `answer-good`).
 -- Assumes nothing.
-use Prim.Native.Nat.{ℕ, _<_}
+use Prim.Native.Nat.{ℕ}
 use mathlib.Core.Path.{_≡_, refl, sym, ap, _∙_, subst}
 use mathlib.Core.Bool.{Bool, true, false, _&&_, false≢true}
 use mathlib.Core.List.{List}
 use lib.Dec.{eqb}
-use lib.ListN.{length, getD}
+use lib.ListN.{length}
 use borrow.Author.Tests.{eqb-true}
 use Rattle.laws.specs.Choice.{pick, cases, clash, agree, and-left, and-right}
-use Rattle.laws.specs.Checks.{all, all-of, all-at}
+use Rattle.laws.specs.Checks.{all-of, all-at}
 use Rattle.laws.specs.Lists.{getD-tab}
 use Rattle.laws.specs.Words.{wordAt}
 use Rattle.names.specs.Names.{keyCount, nodeCount}
 use Rattle.images.specs.Head.{partAt, headFormed, restZero}
-use Rattle.images.specs.Net.{slot0, slotInRange, netInRange, netWritten}
+use Rattle.images.specs.Net.{slot0, slotInRange, netInRange}
 use Rattle.images.specs.Script.{action0, scriptInRange, actionInRange}
 use Rattle.images.specs.Read as Images
 use Rattle.images.specs.Read.{actionOf, actionFormed, scriptOf, scriptFormed, nodesFormed, slotOf, slotFormed, netOf, netFormed, slotsFormed, readScript, readNet}
@@ -43,11 +42,9 @@ use Rattle.requests.specs.declared.RequestRead.{RequestRead}
 use Rattle.requests.specs.declared.RequestRead.the-variants as RequestRead
 use Rattle.requests.specs.declared.Answer.{Answer}
 use Rattle.requests.specs.declared.Answer.the-variants as Answer
+use Rattle.requests.specs.declared.Told.{Told}
 use Rattle.rollback.specs.Rollback.{Good}
-use Rattle.rollback.specs.declared.Outcome.{Outcome}
-use Rattle.machine.specs.Calls.{isGood, scriptIn, netIn, goodScript, goodNet, imageAnswer, takenApart, served, Reply, told, refusal, afterwards, replyTo, reply}
-use Rattle.machine.specs.declared.Taken.{Taken}
-use Rattle.machine.specs.declared.Told.{Told}
+use Rattle.machine.specs.Calls.{isGood, scriptIn, netIn, goodScript, goodNet, imageAnswer, takenApart, GoodImages, served, Reply, told, refusal, afterwards, replyTo, reply}
 
 abbrev pub accepts : Verdict → Bool
 accepts Verdict.Accepted = true
@@ -58,23 +55,9 @@ accepts Verdict.WrongLocality = false
 accepts Verdict.WrongRoot = false
 accepts Verdict.Cycle = false
 
--- the answer of both forms, and of whether the net is accepted
-unfoldable pub answerBy : Form → Form → Bool → Answer
-answerBy f g a = pick (isGood f) (pick (isGood g && a) Answer.Done Answer.BadNet) Answer.BadScript
-
 -- what a call's contract says of its result and of the lent bytes after it
 abbrev pub Replies : Told → List ℕ → Reply → Type 0
 Replies t last r = (t ≡ r .told) × (last ≡ r .net)
-
--- the lent bytes after an outcome: written where it is done, and otherwise left
-module _ (o : Outcome) (net last : List ℕ) where
-  pub left-no : isDone (o .answer) ≡ false → last ≡ net → last ≡ afterwards o net
-  unfolding afterwards
-  left-no h e = rw h e
-
-  pub written-yes : isDone (o .answer) ≡ true → last ≡ netWritten (o .net) net → last ≡ afterwards o net
-  unfolding afterwards
-  written-yes h e = rw h e
 
 -- ---- the request
 
@@ -107,11 +90,9 @@ module _ (s : Script) (n : Net) (net q : List ℕ) where
   pub request-bad : RequestRead.Bad ≡ readRequest q → (t : Told) → t ≡ refusal Answer.BadRequest → Replies t net (replyTo s n net (readRequest q))
   request-bad e t is = subst (λ (a : RequestRead). Replies t net (replyTo s n net a)) e (is, refl)
 
-  pub request-good : (r : Request) → RequestRead.Request r ≡ readRequest q → (o : Outcome) → o ≡ served s n r → (t : Told) → t ≡ told o → (last : List ℕ)
-      → last ≡ afterwards o net → Replies t last (replyTo s n net (readRequest q))
-  request-good r e o is-o t is-t last is-last =
-      subst (λ (a : RequestRead). Replies t last (replyTo s n net a)) e
-      (is-t ∙ ap told is-o, is-last ∙ ap (λ (z : Outcome). afterwards z net) is-o)
+  pub request-good : (r : Request) → RequestRead.Request r ≡ readRequest q → (t : Told) (last : List ℕ)
+      → (t ≡ told (served s n r)) × (last ≡ afterwards (served s n r) net) → Replies t last (replyTo s n net (readRequest q))
+  request-good r e t last both = subst (λ (a : RequestRead). Replies t last (replyTo s n net a)) e both
 
 -- ---- the images
 
@@ -170,33 +151,62 @@ accepts-tested s n v range =
     let says = accepted-verdict s n v range in
     agree (accepts (verdictOf s n)) (isAccepted s (view s n)) (λ h. tests .1 (says .0 (accepts-is (verdictOf s n) h))) (λ h. ap accepts (says .1 (tests .0 h)))
 
-module _ (script net : List ℕ) (sr : ScriptRead) (is-s : sr ≡ readScript script) (nr : NetRead) (is-n : nr ≡ readNet net) where
-  pub taken-range : isGood (nr .form) ≡ true → netInRange (nr .net) ≡ true
-  taken-range g =
-      let there : isGood (readNet net .form) ≡ true = ap (λ (z : NetRead). isGood (z .form)) (sym is-n) ∙ g in
-      ap (λ (z : NetRead). netInRange (z .net)) is-n ∙ net-range net there
+-- the code's answer is the definition's
+module _ (S N : List ℕ) where
+  good-formed : goodScript S ≡ scriptFormed S
+  unfolding readScript
+  good-formed = cases (scriptFormed S) (λ t. rw t refl) (λ t. rw t refl)
 
-  -- the code's answer is the definition's
-  pub taken-is : (t : Taken) → t .answer ≡ answerBy (sr .form) (nr .form) (isAccepted (sr .script) (view (sr .script) (nr .net))) → t .script ≡ sr .script
-      → t .net ≡ nr .net → t ≡ takenApart script net
-  unfolding answerBy imageAnswer goodNet
-  taken-is t is-a is-script is-net =
-      let answers : t .answer ≡ imageAnswer script net = is-a ∙ (λ i. answerBy (is-s i .form) (is-n i .form) (isAccepted (is-s i .script) (view (is-s i .script) (is-n i .net)))) in
-      let scripts : t .script ≡ scriptIn script = is-script ∙ ap (λ (z : ScriptRead). z .script) is-s in
-      let nets : t .net ≡ netIn net = is-net ∙ ap (λ (z : NetRead). z .net) is-n in
-      λ i. record { answer = answers i; script = scripts i; net = nets i }
+  pub image-no-script : scriptFormed S ≡ false → Answer.BadScript ≡ imageAnswer S N
+  unfolding imageAnswer
+  image-no-script h =
+      let g : goodScript S ≡ false = good-formed ∙ h in
+      rw g refl
+
+  module _ (f : scriptFormed S ≡ true) where
+    by-net : (b : Bool) → goodNet (scriptIn S) N ≡ b → pick b Answer.Done Answer.BadNet ≡ imageAnswer S N
+    unfolding imageAnswer
+    by-net b e =
+        let g : goodScript S ≡ true = good-formed ∙ f in
+        rw (g, e) refl
+
+    pub image-no-net : netFormed N ≡ false → Answer.BadNet ≡ imageAnswer S N
+    unfolding goodNet readNet
+    image-no-net h = by-net false (rw h refl)
+
+    pub image-sizes : netFormed N ≡ true → (length S ≡ 2064) × (length N ≡ 3600)
+    unfolding scriptFormed netFormed
+    image-sizes g = (
+      eqb-true (length S) 2064 (and-left (eqb (length S) 2064) _ f),
+      eqb-true (length N) 3600 (and-left (eqb (length N) 3600) _ g),
+    )
+
+    -- by the verdict, where both have their form
+    pub image-by : netFormed N ≡ true → ShapedNet (netOf N) → (v : Verdict) → v ≡ verdictOf (scriptOf S) (netOf N) → (b : Bool) → b ≡ accepts v
+        → pick b Answer.Done Answer.BadNet ≡ imageAnswer S N
+    unfolding goodNet readNet readScript
+    image-by g shaped v is-v b is-b =
+        let read-script : readScript S ≡ Images.goodScript (scriptOf S) = rw f refl in
+        let read-net : readNet N ≡ Images.goodNet (netOf N) = rw g refl in
+        by-net b
+        ((λ i. isGood (read-net i .form) && isAccepted (read-script i .script) (view (read-script i .script) (read-net i .net))) ∙
+        sym (is-b ∙ ap accepts is-v ∙ accepts-tested (scriptOf S) (netOf N) shaped (formed-net-range N g)))
+
+pub taken-is : (script net : List ℕ) (a : Answer) → a ≡ imageAnswer script net → (sr : ScriptRead) → sr ≡ readScript script → (nr : NetRead) → nr ≡ readNet net
+    → record { answer = a; script = sr .script; net = nr .net } ≡ takenApart script net
+taken-is script net a is-a sr is-s nr is-n = λ i. record { answer = is-a i; script = is-s i .script; net = is-n i .net }
 
 -- ---- images that are good
 
 -- an image's answer is done exactly where both are good
-pub images-good : (script net : List ℕ) → isDone (imageAnswer script net) ≡ true → (goodScript script ≡ true) × (goodNet (scriptIn script) net ≡ true)
+pub images-good : (script net : List ℕ) → GoodImages script net → (goodScript script ≡ true) × (goodNet (scriptIn script) net ≡ true)
 unfolding imageAnswer
 images-good script net h =
     cases (goodScript script)
     (λ p. cases (goodNet (scriptIn script) net) (λ q. (p, q)) (λ q. absurd (false≢true (rw (p, q) at h))))
     (λ p. absurd (false≢true (rw p at h)))
 
-pub good-images : (script net : List ℕ) → isDone (imageAnswer script net) ≡ true → Good (scriptIn script) (netIn net)
+pub good-images : (script net : List ℕ) → GoodImages script net → Good (scriptIn script) (netIn net)
 unfolding goodNet
 good-images script net h =
     let (p, q) = images-good script net h in
@@ -210,18 +220,16 @@ good-images script net h =
 
 -- ---- the call
 
-module _ (script net q : List ℕ) (t : Taken) (is : t ≡ takenApart script net) where
-  answered : t .answer ≡ imageAnswer script net
-  answered = ap (λ (z : Taken). z .answer) is
+-- where the images are good, a reply is the request's
+pub good-replies : (script net q : List ℕ) → GoodImages script net → (o : Told) (last : List ℕ)
+    → Replies o last (replyTo (scriptIn script) (netIn net) net (readRequest q)) → Replies o last (reply script net q)
+unfolding reply
+good-replies script net q h o last e = rw h e
 
-  pub call-refused : isDone (t .answer) ≡ false → (o : Told) → o ≡ refusal (t .answer) → Replies o net (reply script net q)
+module _ (script net : List ℕ) (a : Answer) (is : a ≡ imageAnswer script net) where
+  pub call-refused : (q : List ℕ) → isDone a ≡ false → (o : Told) → o ≡ refusal a → Replies o net (reply script net q)
   unfolding reply
-  call-refused h o e = rw (sym (ap isDone answered) ∙ h) (e ∙ ap refusal answered, refl)
+  call-refused q h o e = rw (sym (ap isDone is) ∙ h) (e ∙ ap refusal is, refl)
 
-  pub call-good : isDone (t .answer) ≡ true → Good (t .script) (t .net)
-  call-good h = subst (λ (z : Taken). Good (z .script) (z .net)) (sym is) (good-images script net (sym (ap isDone answered) ∙ h))
-
-  pub call-done : isDone (t .answer) ≡ true → (o : Told) (last : List ℕ) → Replies o last (replyTo (t .script) (t .net) net (readRequest q)) → Replies o last (reply script net q)
-  unfolding reply
-  call-done h o last e =
-      rw (sym (ap isDone answered) ∙ h) (subst (λ (z : Taken). Replies o last (replyTo (z .script) (z .net) net (readRequest q))) is e)
+  pub answer-good : isDone a ≡ true → GoodImages script net
+  answer-good h = sym (ap isDone is) ∙ h

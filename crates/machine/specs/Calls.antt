@@ -1,9 +1,11 @@
 -- One call on bytes, as a customer reads it: script, net and request are any byte strings; the answer, undone and touched; and the bytes of the
 -- net after it. Document 01, "Requests and what comes back".
--- In order: the images as they are read (`scriptIn`, `netIn`) and whether they are good (`goodScript`, `goodNet`, `imageAnswer`, `takenApart`); a request on good images, by the
--- theory's outcome (`served`); a reply (`Reply`), a refusal that leaves the net (`refusal`, `refusedWith`), the lent net after an outcome (`afterwards`); the reply to a call (`reply`).
+-- In order: the images as they are read (`scriptIn`, `netIn`) and whether they are good (`goodScript`, `goodNet`, `imageAnswer`, `takenApart`, `GoodImages`); a request on good images, by the
+-- theory's outcome (`served`); a reply (`Reply`), a refusal that leaves the net (`refusedWith`), the lent net after an outcome (`afterwards`); the reply to a call (`reply`).
+-- What is told of an outcome and of a refusal (`told`, `refusal`) is passed on from below.
 -- Assumes nothing.
 use Prim.Native.Nat.{ℕ}
+use mathlib.Core.Path.{_≡_}
 use mathlib.Core.Bool.{Bool, true, false, _&&_}
 use mathlib.Core.List.{List}
 use Rattle.laws.specs.Choice.{pick}
@@ -20,15 +22,17 @@ use Rattle.rules.specs.Same.{isAccepted}
 use Rattle.rules.specs.View.{view}
 use Rattle.rules.specs.Image.{imageOf}
 use Rattle.requests.specs.Answers as Theory
+pub use Rattle.requests.specs.Requests.{refusal}
 use Rattle.requests.specs.Requests.{asked, isDone, answerOf, readRequest}
 use Rattle.requests.specs.declared.Request.{Request}
 use Rattle.requests.specs.declared.RequestRead.{RequestRead}
 use Rattle.requests.specs.declared.RequestRead.the-variants as RequestRead
 use Rattle.requests.specs.declared.Answer.{Answer}
 use Rattle.requests.specs.declared.Answer.the-variants as Answer
-use Rattle.rollback.specs.declared.Outcome.{Outcome}
+use Rattle.requests.specs.declared.Told.{Told}
+pub use Rattle.rollback.specs.Rollback.{told}
+use Rattle.rollback.specs.Rollback.{Outcome}
 use Rattle.machine.specs.declared.Taken.{Taken}
-use Rattle.machine.specs.declared.Told.{Told}
 
 -- ---- the images
 
@@ -56,6 +60,10 @@ imageAnswer script net = pick (goodScript script) (pick (goodNet (scriptIn scrip
 abbrev pub takenApart : List ℕ → List ℕ → Taken
 takenApart script net = record { answer = imageAnswer script net; script = scriptIn script; net = netIn net }
 
+-- neither 1 nor 2 is the answer
+abbrev pub GoodImages : List ℕ → List ℕ → Type 0
+GoodImages script net = isDone (imageAnswer script net) ≡ true
+
 -- ---- a request on good images
 
 -- what the theory says of it, in the machine's types
@@ -72,13 +80,7 @@ pub record Reply : Type 0 where
   pub told : Told
   pub net : List ℕ
 
-abbrev pub told : Outcome → Told
-told o = record { answer = o .answer; undone = o .undone; touched = o .touched }
-
 -- "any refusal leaves the net, with undone 0 and touched 0"
-abbrev pub refusal : Answer → Told
-refusal a = record { answer = a; undone = 0; touched = localities 0 }
-
 abbrev pub refusedWith : Answer → List ℕ → Reply
 refusedWith a net = record { told = refusal a; net = net }
 

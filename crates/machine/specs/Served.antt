@@ -45,9 +45,8 @@ use Rattle.step.specs.Undone.{undo-is, undo-touched}
 use Rattle.step.specs.declared.Change.{Change}
 use Rattle.ranges.specs.Forward.{forward-in-range, forward-shaped}
 use Rattle.ranges.specs.Backward.{accepted-taken, undone-in-range, undone-shaped}
-use Rattle.rollback.specs.Rollback.{Good, outcomeBy, undoneAll, rollbackAnswer, rollbackOutcome, rollAnswer, rollOutcome}
+use Rattle.rollback.specs.Rollback.{Good, Outcome, outcomeBy, undoneAll, rollbackAnswer, rollbackOutcome, rollAnswer, rollOutcome}
 use Rattle.rollback.specs.Rollback as Rollback
-use Rattle.rollback.specs.declared.Outcome.{Outcome}
 use Rattle.machine.specs.Calls.{toldBy, served}
 
 -- a step as an outcome: its change is written

@@ -1,14 +1,15 @@
 -- When a template meets a tuple, and what that binds. 004, Table III; document 01, "Forward rules": "Same field count is needed to match.
 -- Actual fields match the same kind and number; a formal for a value only a value, for a locality only a locality."
 -- Assumes nothing.
-use Prim.Native.Nat.{ℕ, zero, suc}
+use Prim.Native.Nat.{ℕ, zero, suc, _+_}
+use native.Mathlib.Numerals.{add-one}
 use mathlib.Core.Path.{_≡_, ap}
 use native.Mathlib.Omega.{arith}
 use mathlib.Core.List.{List}
 use mathlib.Core.Bool.{Bool, true, false, _&&_}
 use lib.Dec.{eqb, ltb}
 use lib.ListN.{getD, set}
-use Rattle.laws.specs.Choice.{pick, cases}
+use Rattle.laws.specs.Choice.{pick, cases, and-left, and-right}
 use Rattle.laws.specs.Checks.{all}
 use Rattle.names.specs.Names.{variableCount}
 use Rattle.images.specs.Script.{fieldAt}
@@ -41,6 +42,10 @@ withVariable vars v d = pick (ltb v variableCount) (set vars v d) vars
 unfoldable pub bindOne : List Datum → Field → Datum → List Datum
 bindOne vars f d = pick (isFormal f) (withVariable vars (f .number) d) vars
 
+-- it binds a variable: it is a formal, and names one
+abbrev pub binds : Field → Bool
+binds f = isFormal f && ltb (f .number) variableCount
+
 -- the first k fields bound
 unfoldable pub bindUpTo : ℕ → List Datum → Action → List Datum → List Datum
 bindUpTo zero vars a fields = vars
@@ -48,6 +53,21 @@ bindUpTo (suc k) vars a fields = bindOne (bindUpTo k vars a fields) (fieldAt a k
 
 unfoldable pub bound : List Datum → Action → List Datum → List Datum
 bound vars a fields = bindUpTo 4 vars a fields
+
+-- a field more: its variable takes the tuple's field where it binds one, and otherwise all stays
+module _ (vars : List Datum) (a : Action) (fields : List Datum) (k : ℕ) (now : List Datum) (is : now ≡ bindUpTo k vars a fields) where
+  pub bound-none : binds (fieldAt a k) ≡ false → now ≡ bindUpTo (k + 1) vars a fields
+  unfolding bindUpTo bindOne
+  bound-none h =
+      rw (add-one k)
+      (cases (isFormal (fieldAt a k)) (λ f. let v : ltb (fieldAt a k .number) variableCount ≡ false = rw f at h in rw (f, v) is) (λ f. rw f is))
+
+  pub bound-one : binds (fieldAt a k) ≡ true → set now (fieldAt a k .number) (getD fields k datum0) ≡ bindUpTo (k + 1) vars a fields
+  unfolding bindUpTo bindOne
+  bound-one h =
+      let f : isFormal (fieldAt a k) ≡ true = and-left (isFormal (fieldAt a k)) _ h in
+      let v : ltb (fieldAt a k .number) variableCount ≡ true = and-right (isFormal (fieldAt a k)) _ h in
+      rw (add-one k, f, v) (ap (λ (l : List Datum). set l (fieldAt a k .number) (getD fields k datum0)) is)
 
 -- the answer, and the process's variables: as bound where it matches, else as they were
 unfoldable pub matchOf : List Datum → Action → ℕ → List Datum → Matching

@@ -2,7 +2,7 @@
 // variables that a match binds stand beside its answer, since an enum holds no array.
 ghost use mathlib.Core.Path.{_≡_};
 ghost use Rattle.matching.specs.Evaluate.{actual, evaluated, placeOf, targetOf, isReady, fieldsReady, variableOf};
-ghost use Rattle.matching.specs.Match.{fieldMeets, placeMeets, meets, withVariable, bindOne, bound, matchOf};
+ghost use Rattle.matching.specs.Match.{fieldMeets, placeMeets, meets, withVariable, binds, bound, matchOf};
 use images::Action;
 use images::Datum;
 use images::Field;
@@ -148,7 +148,7 @@ fn place_meets(vars: [Datum; Variable::COUNT], count: u8, j: u8, f: Field, d: Da
 }
 
 // A node's template against a tuple of so many fields.
-fn template_meets(
+pub fn template_meets(
     vars: [Datum; Variable::COUNT],
     a: Action,
     count: u8,
@@ -185,13 +185,14 @@ pub fn with_variable(vars: [Datum; Variable::COUNT], v: u32, d: Datum) -> [Datum
     next
 }
 
-fn bind_one(vars: [Datum; Variable::COUNT], f: Field, d: Datum) -> [Datum; Variable::COUNT]
-    ensures { λ r. ⌜ r ≡ bindOne vars f d ⌝ }
+// A formal, and its variable is one.
+fn binds(f: Field) -> bool
+    ensures { λ r. ⌜ r ≡ binds f ⌝ }
 {
     if f.tag < Field::VALUE_FORMAL {
-        return vars;
+        return false;
     }
-    with_variable(vars, f.number, d)
+    f.number < Field::NAMES
 }
 
 // The variables with every formal of the node's template bound to the tuple's field.
@@ -203,10 +204,19 @@ pub fn bind(
     ensures { λ r. ⌜ r ≡ bound vars a tuple ⌝ }
 {
     let fields = a.fields;
-    let one = bind_one(vars, fields[0], tuple[0]);
-    let two = bind_one(one, fields[1], tuple[1]);
-    let three = bind_one(two, fields[2], tuple[2]);
-    bind_one(three, fields[3], tuple[3])
+    let mut next = vars;
+    let mut j: usize = 0;
+    while j < Field::COUNT {
+        let i = j;
+        j += 1;
+        let f = fields[i];
+        if !binds(f) {
+            continue;
+        }
+        let d = tuple[i];
+        next[f.number as usize] = d;
+    }
+    next
 }
 
 // A node's template against a tuple of so many fields: whether they match, and the variables then.

@@ -1,6 +1,6 @@
 -- The code's requests and answers: document 01's number of each answer, and a request from its bytes.
--- In order: `number`, and the answer of a number (`answerOf`), which are each other's inverse (`number-of`, `answer-number`); a request as the
--- definitions take it (`asked`); `readRequest`.
+-- In order: `number`, and the answer of a number (`answerOf`), which are each other's inverse (`number-of`, `answer-number`); what a call tells that is
+-- refused (`refusal`); a request as the definitions take it (`asked`); `readRequest`.
 -- Assumes nothing.
 use Prim.Native.Nat.{ℕ, zero, suc, _<_}
 use mathlib.Core.Path.{_≡_, refl}
@@ -11,12 +11,14 @@ use lib.Dec.{eqb}
 use lib.ListN.{length, getD}
 use Rattle.laws.specs.Choice.{pick}
 use Rattle.names.specs.Names.{key, locality}
+use Rattle.names.specs.Localities.{localities}
 use Rattle.requests.specs.Answers as A
 use Rattle.requests.specs.declared.Request.{Request}
 use Rattle.requests.specs.declared.RequestRead.{RequestRead}
 use Rattle.requests.specs.declared.RequestRead.the-variants as RequestRead
 use Rattle.requests.specs.declared.Answer.{Answer}
 use Rattle.requests.specs.declared.Answer.the-variants as Answer
+use Rattle.requests.specs.declared.Told.{Told}
 
 -- ---- answers
 
@@ -68,6 +70,10 @@ answer-number Answer.NoTuple = refl
 answer-number Answer.NoMatch = refl
 answer-number Answer.NotFresh = refl
 answer-number Answer.NotUndoable = refl
+
+-- "any refusal leaves the net, with undone 0 and touched 0"
+abbrev pub refusal : Answer → Told
+refusal a = record { answer = a; undone = 0; touched = localities 0 }
 
 -- ---- requests
 

@@ -1,8 +1,9 @@
-// A request, as its six bytes say, and the answers that a call may give.
+// A request, as its six bytes say, and what a call tells: the answers that it may give, and the numbers beside them.
 ghost use mathlib.Core.Path.{_≡_};
 ghost use Rattle.requests.specs.Answers.{inRange};
-ghost use Rattle.requests.specs.Requests.{asked, number, readRequest};
+ghost use Rattle.requests.specs.Requests.{asked, number, refusal, readRequest};
 use names::Key;
+use names::Localities;
 use names::Locality;
 
 // What a call is asked: codes 0 forward, 1 backward, 2 rollback, 3 roll. A place that the code has no need for is none.
@@ -62,6 +63,13 @@ pub enum Answer {
     NotUndoable,
 }
 
+// What a call tells beside the net: its answer, how many events were undone, and the localities at which a slot became free.
+pub struct Told {
+    pub answer: Answer,
+    pub undone: u8,
+    pub touched: Localities,
+}
+
 // Document 01's number of the answer.
 pub fn number(a: Answer) -> u8
     ensures { λ r. ⌜ r ≡ number a ⌝ }
@@ -80,6 +88,17 @@ pub fn number(a: Answer) -> u8
         Answer::NoMatch => 10,
         Answer::NotFresh => 11,
         Answer::NotUndoable => 12,
+    }
+}
+
+// A refusal: nothing is undone or touched.
+pub fn refused(answer: Answer) -> Told
+    ensures { λ r. ⌜ r ≡ refusal answer ⌝ }
+{
+    Told {
+        answer,
+        undone: 0,
+        touched: Localities::EMPTY,
     }
 }
 

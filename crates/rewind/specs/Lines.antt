@@ -13,7 +13,7 @@ use lib.ListN.{length, take, set, length-append, length-set}
 use lib.Seq.{take-suc-set}
 use Rattle.laws.specs.Choice.{pick, cases}
 use Rattle.requests.specs.Requests.{number}
-use Rattle.machine.specs.declared.Told.{Told}
+use Rattle.requests.specs.declared.Told.{Told}
 
 -- ---- a line
 

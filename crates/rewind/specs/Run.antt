@@ -1,158 +1,93 @@
--- A run of requests on images that were taken apart and accepted: the lines, and the net.
--- In order: what a request needs (`Fit`), which serving one leaves (`served-fit`), with few undone (`served-few`); the run (`Run`), a request more
--- (`next`), the first k requests of a chunk (`answered`), which leave what the next one needs (`answered-fit`); the code's output and net against it
--- (`runOf`): what one request puts there (`Ran`, `one-bad`, `one-good`), the loop's first and next turn (`run-first`, `run-next`).
+-- A run of requests on good images: request by request, what a call answers on the net that the one before left.
+-- In order: the run (`Run`), a request more (`next`), the first k requests of a chunk (`answered`); a call leaves good images (`reply-held`) and
+-- undoes few (`reply-few`), so the next request finds them good (`answered-held`); the code's output and net against the run (`runOf`): what one
+-- request puts there (`one-more`), the loop's first and next turn (`run-first`, `run-next`).
 -- Assumes nothing.
 use Prim.Native.Nat.{ℕ, zero, suc, _+_, _-_, _*_, _<_, _≤_}
 use mathlib.Core.Path.{_≡_, refl, sym, ap, _∙_, subst}
-use mathlib.Core.Bool.{true}
 use mathlib.Core.List.{List, [], _++_}
 use native.Mathlib.Numerals.{add-one}
 use native.Mathlib.Omega.{arith}
 use lib.Dec.{eqb}
-use borrow.Author.Tests.{eqb-true}
 use lib.ListN.{take, drop}
+use borrow.Author.Tests.{eqb-true, eqb-false}
 use Rattle.laws.specs.Choice.{cases}
 use Rattle.laws.specs.Parts.{part-size}
-use Rattle.images.specs.Shape.{ShapedScript, ShapedNet}
-use Rattle.images.specs.declared.Script.{Script}
-use Rattle.images.specs.declared.Net.{Net}
-use Rattle.nets.specs.Accepted.{Accepted}
-use Rattle.rules.specs.Instance.{rulesOf}
-use Rattle.rules.specs.Roots.{rolledBy}
-use Rattle.rules.specs.View.{view}
-use Rattle.rules.specs.Image.{image-view}
-use Rattle.requests.specs.Answers as Theory
-use Rattle.requests.specs.Answers.{inRange}
-use Rattle.requests.specs.Requests.{asked, readRequest}
-use Rattle.requests.specs.declared.Request.{Request}
-use Rattle.requests.specs.declared.RequestRead.{RequestRead}
-use Rattle.requests.specs.declared.RequestRead.the-variants as RequestRead
-use Rattle.requests.specs.declared.Answer.the-variants as Answer
-use Rattle.rollback.specs.Rollback.{Good}
-use Rattle.rollback.specs.declared.Outcome.{Outcome}
-use Rattle.machine.specs.Calls.{toldBy, served, told, refusal}
-use Rattle.machine.specs.Called.{read-in-range}
-use Rattle.machine.specs.After.{Kept}
-use Rattle.machine.specs.Bytes.{after-kept, undone-few}
+use Rattle.requests.specs.Requests.{number}
+use Rattle.machine.specs.Calls.{reply}
+use Rattle.machine.specs.Bytes.{Held, left, doing, next-held, next-undone}
+use Rattle.requests.specs.declared.Told.{Told}
 use Rattle.rewind.specs.Lines.{lineOf, line-short, Puts}
-
--- ---- one request
-
--- what a request needs: both images are good, and of the code's types
-pub record Fit (s : Script) (n : Net) : Type 0 where
-  pub good : Good s n
-  pub shaped : ShapedNet n
-
-module _ (s : Script) (w : ShapedScript s) (n : Net) (f : Fit s n) (r : Request) (range : inRange (asked r) ≡ true) where
-  abbrev number : ℕ
-  number = Theory.answer (rolledBy s) (view s n) (asked r)
-
-  kept-fit : (o : Theory.Outcome (rulesOf s)) → Kept s (o .net) → Fit s (toldBy s o .net)
-  unfolding toldBy
-  kept-fit o k =
-      record {
-        good = record { script = f .good .script; net = k .range; accepted = subst Accepted (sym (k .viewed)) (k .accepted) };
-        shaped = k .shaped;
-      }
-
-  -- serving keeps what the next request needs
-  pub served-fit : Fit s (served s n r .net)
-  unfolding toldBy Theory.outcome
-  served-fit =
-      cases (eqb number 0) (λ h. rw h (kept-fit done-outcome (after-kept s w n (f .shaped) (f .good) r range (eqb-true number 0 h))))
-      (λ h. rw h (subst (Fit s) (sym (image-view s n (f .shaped) (f .good .net))) f))
-    where
-      done-outcome : Theory.Outcome (rulesOf s)
-      done-outcome =
-          record {
-            answer = 0;
-            undone = Theory.undone (rolledBy s) (view s n) (asked r);
-            touched = Theory.touchedWord (rolledBy s) (view s n) (asked r);
-            net = Theory.netAfter (rolledBy s) (view s n) (asked r);
-          }
-
-  -- so that two digits hold it
-  pub served-few : served s n r .undone ≤ 63
-  unfolding toldBy Theory.outcome
-  served-few =
-      cases (eqb number 0) (λ h. rw h (undone-few s w n (f .shaped) (f .good) r range (eqb-true number 0 h))) (λ h. rw h (omega arith))
 
 -- ---- requests one after the other
 
+-- the lines so far, and the bytes of the net
 pub record Run : Type 0 where
   pub text : List ℕ
-  pub net : Net
+  pub net : List ℕ
 
--- a request more: its line, and the net that it leaves
-abbrev pub next : Script → Run → RequestRead → Run
-next s a (RequestRead.Request r) = record { text = a .text ++ lineOf (told (served s (a .net) r)); net = served s (a .net) r .net }
-next s a RequestRead.Bad = record { text = a .text ++ lineOf (refusal Answer.BadRequest); net = a .net }
-
--- the lines that fill an output up to an end, and the net
-abbrev pub runOf : List ℕ → ℕ → Net → Run
-runOf out end net = record { text = take end out; net = net }
+-- a request more: the line of what a call tells, and the net that it leaves
+abbrev pub next : List ℕ → Run → List ℕ → Run
+next script a q = record { text = a .text ++ lineOf (reply script (a .net) q .told); net = reply script (a .net) q .net }
 
 abbrev pub requestAt : List ℕ → ℕ → List ℕ
 requestAt b k = take 6 (drop (k * 6) b)
 
 -- the first k requests of a chunk
-unfoldable pub answered : Script → Net → List ℕ → ℕ → Run
-answered s n b zero = record { text = []; net = n }
-answered s n b (suc k) = next s (answered s n b k) (readRequest (requestAt b k))
+unfoldable pub answered : List ℕ → List ℕ → List ℕ → ℕ → Run
+answered script net b zero = record { text = []; net = net }
+answered script net b (suc k) = next script (answered script net b k) (requestAt b k)
 
-module _ (s : Script) (w : ShapedScript s) where
-  pub next-fit : (a : Run) → Fit s (a .net) → (q : List ℕ) → Fit s (next s a (readRequest q) .net)
-  next-fit a f q = each (readRequest q) refl
+-- ---- the images stay good
+
+module _ (S N Q : List ℕ) (h : Held S N) where
+  pub reply-held : Held S (reply S N Q .net)
+  reply-held =
+      cases (eqb (number (reply S N Q .told .answer)) 0)
+      (λ z. next-held S N Q (h .script-bytes) (h .net-bytes) (doing S N Q (eqb-true (number (reply S N Q .told .answer)) 0 z)))
+      (λ z. subst (Held S) (sym (left S N Q (eqb-false (number (reply S N Q .told .answer)) 0 z) .net)) h)
+
+  -- so that two digits hold what was undone
+  pub reply-few : (t : Told) → t ≡ reply S N Q .told → t .undone < 100
+  reply-few t e = omega (arith, ap (λ (z : Told). z .undone) e, few)
     where
-      each : (o : RequestRead) → o ≡ readRequest q → Fit s (next s a o .net)
-      each (RequestRead.Request r) e = served-fit s w (a .net) f r (read-in-range q r e)
-      each RequestRead.Bad e = f
+      few : reply S N Q .told .undone ≤ 63
+      few =
+          cases (eqb (number (reply S N Q .told .answer)) 0)
+          (λ z. next-undone S N Q (h .script-bytes) (h .net-bytes) (doing S N Q (eqb-true (number (reply S N Q .told .answer)) 0 z)))
+          (λ z. omega (arith, left S N Q (eqb-false (number (reply S N Q .told .answer)) 0 z) .undone))
 
-  pub answered-fit : (n : Net) → Fit s n → (b : List ℕ) (k : ℕ) → Fit s (answered s n b k .net)
-  unfolding answered
-  answered-fit n f b zero = f
-  answered-fit n f b (suc k) = next-fit (answered s n b k) (answered-fit n f b k) (requestAt b k)
+  pub last-held : (last : List ℕ) → last ≡ reply S N Q .net → Held S last
+  last-held last e = subst (Held S) (sym e) reply-held
+
+pub answered-held : (S N b : List ℕ) → Held S N → (k : ℕ) → Held S (answered S N b k .net)
+unfolding answered
+answered-held S N b h zero = h
+answered-held S N b h (suc k) = reply-held S (answered S N b k .net) (requestAt b k) (answered-held S N b h k)
 
 -- ---- the code against the run
 
-module _ (s : Script) (w : ShapedScript s) (n : Net) (f : Fit s n) where
-  -- a request that is read is served, and two digits hold what it undoes
-  pub one-few : (q : List ℕ) (r : Request) → RequestRead.Request r ≡ readRequest q → (o : Outcome) → o ≡ served s n r → o .undone < 100
-  one-few q r e o is =
-      omega (arith, ap (λ (z : Outcome). z .undone) is, served-few s w n f r (read-in-range q r e))
+-- the lines that fill an output up to an end, and the net
+abbrev pub runOf : List ℕ → ℕ → List ℕ → Run
+runOf out end net = record { text = take end out; net = net }
 
-  -- what was answered so far leaves what the next request needs
-  pub run-fit : (a : Run) (b : List ℕ) (k : ℕ) → a ≡ answered s n b k → Fit s (a .net)
-  run-fit a b k e = subst (λ (z : Run). Fit s (z .net)) (sym e) (answered-fit s w n f b k)
+-- the output after one request more, whose line was put at `at`, and the net that it left
+pub one-more : (S N q xs ys : List ℕ) (at end : ℕ) (t : Told) (last : List ℕ) → t ≡ reply S N q .told → last ≡ reply S N q .net → Puts xs at ys end (lineOf t)
+    → (runOf ys end last ≡ next S (runOf xs at N) q) × (end ≤ at + 15)
+one-more S N q xs ys at end t last is-t is-last p =
+    let text : take end ys ≡ take at xs ++ lineOf (reply S N q .told) = p .front ∙ ap (λ (z : Told). take at xs ++ lineOf z) is-t in (
+      λ i. record { text = text i; net = is-last i },
+      omega (arith, p .ends, line-short t),
+    )
 
--- the output after one request more, whose line was put at `at`
-abbrev pub Ran : Script → Net → List ℕ → List ℕ → ℕ → List ℕ → ℕ → Net → Type 0
-Ran s n q xs at ys end m = (runOf ys end m ≡ next s (runOf xs at n) (readRequest q)) × (end ≤ at + 15)
-
-module _ (s : Script) (n : Net) (q : List ℕ) {xs ys : List ℕ} {at end : ℕ} where
-  pub one-bad : RequestRead.Bad ≡ readRequest q → Puts xs at ys end (lineOf (refusal Answer.BadRequest)) → Ran s n q xs at ys end n
-  one-bad e p = (
-    subst (λ (o : RequestRead). runOf ys end n ≡ next s (runOf xs at n) o) e (λ i. record { text = p .front i; net = n }),
-    omega (arith, p .ends, line-short (refusal Answer.BadRequest)),
-  )
-
-  pub one-good : (r : Request) → RequestRead.Request r ≡ readRequest q → (o : Outcome) → o ≡ served s n r → Puts xs at ys end (lineOf (told o)) → Ran s n q xs at ys end (o .net)
-  one-good r e o is p =
-      let text : take end ys ≡ take at xs ++ lineOf (told (served s n r)) = p .front ∙ ap (λ (z : Outcome). take at xs ++ lineOf (told z)) is in (
-        subst (λ (a : RequestRead). runOf ys end (o .net) ≡ next s (runOf xs at n) a) e (λ i. record { text = text i; net = is i .net }),
-        omega (arith, p .ends, line-short (told o)),
-      )
-
-pub run-first : (s : Script) (n : Net) (b out : List ℕ) → runOf out 0 n ≡ answered s n b 0
+pub run-first : (S N b out : List ℕ) → runOf out 0 N ≡ answered S N b 0
 unfolding answered
-run-first s n b out = refl
+run-first S N b out = refl
 
 -- a turn of the loop over a chunk, whose part k was lent as `&b[at..at + 6]`
-pub run-next : (s : Script) (n : Net) (b : List ℕ) (k : ℕ) (a z : Run) → a ≡ answered s n b k
-    → z ≡ next s a (readRequest (take (k * 6 + 6 - k * 6) (drop (k * 6) b))) → z ≡ answered s n b (k + 1)
+pub run-next : (S N b : List ℕ) (k : ℕ) (a z : Run) → a ≡ answered S N b k → z ≡ next S a (take (k * 6 + 6 - k * 6) (drop (k * 6) b))
+    → z ≡ answered S N b (k + 1)
 unfolding answered
-run-next s n b k a z e g =
+run-next S N b k a z e g =
     rw (add-one k)
-    (g ∙ ap (λ (c : ℕ). next s a (readRequest (take c (drop (k * 6) b)))) (part-size (k * 6) 6) ∙
-    ap (λ (y : Run). next s y (readRequest (requestAt b k))) e)
+    (g ∙ ap (λ (c : ℕ). next S a (take c (drop (k * 6) b))) (part-size (k * 6) 6) ∙ ap (λ (y : Run). next S y (requestAt b k)) e)

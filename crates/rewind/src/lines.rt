@@ -6,9 +6,9 @@ ghost use mathlib.Core.List.{[], _∷_};
 ghost use lib.ListN.{length};
 ghost use Rattle.machine.specs.Calls.{refusal};
 ghost use Rattle.rewind.specs.Lines.{Puts, decimal, hexDigit, hexFour, hexWord, lineOf};
-use machine::Told;
 use names::Localities;
 use requests::Answer;
+use requests::Told;
 use requests::number;
 
 // The longest line: two digits, a space, two digits, a space, eight digits and the line's end.

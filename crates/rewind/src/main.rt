@@ -3,22 +3,17 @@
 ghost use mathlib.Core.Path.{_≡_};
 ghost use Prim.Native.Nat.{_-_, _*_, _/_, _%_, _≤_};
 ghost use lib.ListN.{length, take, drop};
-ghost use Rattle.rollback.specs.Rollback.{Good};
+ghost use Rattle.machine.specs.Calls.{GoodImages};
 ghost use Rattle.rewind.specs.Run.{runOf, answered};
-use images::Net;
-use images::Script;
 use libc::STDIN_FILENO;
 use libc::STDOUT_FILENO;
 use lines::LINE;
 use lines::put_line;
 use lines::put_refusal;
-use machine::Told;
-use machine::serve;
-use machine::take_apart;
+use machine::call_on;
+use machine::image_answer;
 use requests::Answer;
 use requests::Request;
-use requests::RequestRead;
-use requests::read_request;
 use step::Check;
 use step::checks::all_hold;
 
@@ -33,46 +28,26 @@ const INPUT_ROOM: usize = 24576;
 
 const OUTPUT_ROOM: usize = 61440;
 
-// The net after some requests, and where in the output their lines end.
-struct Answered {
-    net: Net,
-    end: usize,
-}
-
 // ---- requests that have arrived
 
-// All whole requests of a chunk, in their order, each on the net that the one before it left; their lines go to the front of the output. A
-// refusal, of a request's form or by a check, leaves the net. The net stays in this function, since handing it to another copies it.
-fn answer_chunk(s: Script, n: Net, requests: &[u8], out: &mut [u8]) -> Answered
-    requires { ⌜ Good s n ⌝ }
+// All whole requests of a chunk, in their order, each on the net that the one before it left; their lines go to the front of the output. Where
+// they end.
+fn answer_chunk(script: &[u8], net: &mut [u8], requests: &[u8], out: &mut [u8]) -> usize
+    requires { ⌜ GoodImages (now script) (now net) ⌝ }
     requires { ⌜ 15 * (length (now requests) / 6) ≤ length (now out) ⌝ }
-    ensures { λ r. ⌜ runOf (now (out .exit)) (r .end) (r .net) ≡ answered s n (now (requests .entry)) (length (now (requests .entry)) / 6) ⌝ }
-    ensures { λ r. ⌜ r .end ≤ length (now (out .exit)) ⌝ }
+    ensures { λ r. ⌜ runOf (now (out .exit)) r (now (net .exit)) ≡ answered (now (script .entry)) (now (net .entry)) (now (requests .entry)) (length (now (requests .entry)) / 6) ⌝ }
+    ensures { λ r. ⌜ (r ≤ length (now (out .exit))) × GoodImages (now (script .entry)) (now (net .exit)) ⌝ }
 {
     let count = requests.len() / Request::SIZE;
-    let mut net = n;
     let mut end: usize = 0;
     let mut k: usize = 0;
     while k < count {
         let at = k * Request::SIZE;
-        let read = read_request(&requests[at..at + 6]);
-        k += 1;
-        let RequestRead::Request(r) = read else {
-            end = put_refusal(Answer::BadRequest, out, end);
-            continue;
-        };
-        let o = serve(s, net, r);
-        let answer = o.answer;
-        let touched = o.touched;
-        let t = Told {
-            answer,
-            undone: o.undone,
-            touched,
-        };
+        let t = call_on(script, net, &requests[at..at + 6]);
         end = put_line(t, out, end);
-        net = o.net;
+        k += 1;
     }
-    Answered { net, end }
+    end
 }
 
 // ---- the stream
@@ -124,11 +99,10 @@ fn print_rest(rest: usize) {
 
 // Requests as they arrive: all whole ones are answered, and their lines written, before the next read. An output that takes no more ends the run.
 // The count of turns is one that no run comes to.
-fn answer_all(s: Script, n: Net, input: &mut [u8], out: &mut [u8])
-    requires { ⌜ Good s n ⌝ }
+fn answer_all(script: &[u8], net: &mut [u8], input: &mut [u8], out: &mut [u8])
+    requires { ⌜ GoodImages (now script) (now net) ⌝ }
     requires { ⌜ (length (now input) ≡ 24576) × (length (now out) ≡ 61440) ⌝ }
 {
-    let mut net = n;
     let mut have: usize = 0;
     let mut turns: u64 = 18446744073709551615;
     while 0 < turns {
@@ -137,12 +111,10 @@ fn answer_all(s: Script, n: Net, input: &mut [u8], out: &mut [u8])
             print_rest(have);
             return;
         }
-        let a = answer_chunk(s, net, &input[0..whole], out);
-        let end = a.end;
+        let end = answer_chunk(script, net, &input[0..whole], out);
         if !io::write_all(STDOUT_FILENO, &out[0..end]) {
             return;
         }
-        net = a.net;
         have = keep_rest(input, whole);
         turns -= 1;
     }
@@ -158,17 +130,19 @@ fn main() {
     let net_length = io::read_full(STDIN_FILENO, net);
     let script_read = &script[..];
     let net_read = &net[..];
-    let taken = take_apart(&script_read[0..script_length], &net_read[0..net_length]);
-    let answer = taken.answer;
+    let answer = image_answer(&script_read[0..script_length], &net_read[0..net_length]);
     let Check::Holds = all_hold(answer) else {
         print_refusal(answer);
         return;
     };
-    let s = taken.script;
-    let n = taken.net;
     let mut input_space = [0u8; INPUT_ROOM];
     let input: &mut [u8] = &mut input_space;
     let mut output_space = [0u8; OUTPUT_ROOM];
     let out: &mut [u8] = &mut output_space;
-    answer_all(s, n, input, out);
+    answer_all(
+        &script_read[0..script_length],
+        &mut net[0..net_length],
+        input,
+        out,
+    );
 }

@@ -1,5 +1,7 @@
--- Rollback: what it gives (`Rollback`), how the code undoes a closed set of events (`Turns`, `Undone`), and that its checks are document 01's (`Checked`).
+-- Rollback: what it gives (`Rollback`), how the code undoes a closed set of events (`Turns`, `Undone`) in the lent bytes of a net (`InPlace`), and that its
+-- checks are document 01's (`Checked`).
 pub mod Rollback
 pub mod Turns
 pub mod Undone
+pub mod InPlace
 pub mod Checked

@@ -2,31 +2,31 @@
 -- touched and net are those of the set undone at once.
 --
 -- In order: what is asked (`Asked`); `Rolling`, what each turn keeps; before the first turn (`rolling-first`); the key found may be undone
--- (`rolling-undoable`), and the next turn (`rolling-next`); where no key is found, or after as many turns as there are keys, all is done
+-- (`rolling-undoable`, `rolling-may`), and the next turn (`rolling-next`); where no key is found, or after as many turns as there are keys, all is done
 -- (`rolling-done`, `rolling-last`); the dependents of an event are what is asked for (`event-key`, `all-are`, `asked-all`).
 -- Assumes nothing.
 use mathlib.Core.Path.{_≡_, refl, sym, ap, ap₂, _∙_, fun-ext, subst}
 use mathlib.Core.Bool.{Bool, true, false, _&&_, _||_}
 use mathlib.Core.List.{List, [], _∷_, _++_}
-use Prim.Native.Nat.{ℕ, zero, suc, _+_, _≤_, _<_, _^_}
+use Prim.Native.Nat.{ℕ, _+_, _≤_, _<_, _^_}
 use native.Mathlib.Omega.{arith}
-use lib.Dec.{eqb, ltb}
+use lib.Dec.{ltb}
 use lib.ListN.{length, length-append}
 use lib.Bits.{bitOr, or-lt}
 use lib.Pow.{pow-pos}
 use borrow.Author.Tests.{ltb-true, lt-ltb}
-use Rattle.laws.specs.Choice.{pick, cases, clash, and-left, and-right, fails}
+use Rattle.laws.specs.Choice.{cases, clash, and-left, and-right, fails}
 use Rattle.laws.specs.Lists.{getD-tab}
 use Rattle.laws.specs.Sets.{member, member-or, member-empty, excluding-lt}
-use Rattle.order.specs.KeySets.{Set, _∈_, _∉_, _⊆_, empty, only, _∪_, _∖_, minus-in, minus-out, None, count, count-le, count-strict}
+use Rattle.order.specs.KeySets.{Set, _∈_, _⊆_, empty, only, _∪_, _∖_, minus-in, minus-out, None, count, count-le, count-strict}
 use Rattle.order.specs.KeySets as K
-use Rattle.order.specs.Words.{wordOf, wordOf-is, wordOf-in, wordOf-lt, wordOf-ext}
+use Rattle.order.specs.Words.{wordOf, wordOf-is, wordOf-in, wordOf-lt}
 use Rattle.order.specs.Graphs.{Graph, Closed, Acyclic, Last}
 use Rattle.order.specs.Dependents as Order
 use Rattle.order.specs.Dependents.{dependents-closed}
 use Rattle.order.specs.Taking.{taken-length}
 use Rattle.order.specs.Undoing.{Undoing, touchedBy, undoes-taken}
-use Rattle.names.specs.Names.{keyCount, localityCount, none, key, isKey}
+use Rattle.names.specs.Names.{keyCount, localityCount, key, isKey}
 use Rattle.names.specs.Localities.{localities}
 use Rattle.names.specs.KeySets.{keys, isIn, excluding}
 use Rattle.names.specs.declared.Key.{Key}
@@ -48,7 +48,7 @@ use Rattle.rules.specs.Instance.{rulesOf, lawfulOf}
 use Rattle.rules.specs.View.{view}
 use Rattle.rules.specs.Image.{imageOf, image-view}
 use Rattle.cycles.specs.Cycles.{members, edges}
-use Rattle.cycles.specs.Laws.{members-of, members-excluding, edges-among}
+use Rattle.cycles.specs.Laws.{members-excluding}
 use Rattle.traces.specs.Traces.{deedsOf, eventsOf, rowsOf}
 use Rattle.traces.specs.Traced.{placed-used, event-in, edges-depend}
 use Rattle.dependents.specs.Marks.{markAt, marked, dependentMarks, lastOf}
@@ -57,6 +57,7 @@ use Rattle.dependents.specs.declared.Marks.{Marks}
 use Rattle.step.specs.Change.{applied}
 use Rattle.step.specs.Backward.{backwardChange, undoneBy}
 use Rattle.step.specs.Looked.{backward-found}
+use Rattle.requests.specs.Requests.{isDone}
 use Rattle.step.specs.Tests.{noneReads}
 use Rattle.step.specs.Laws.{Undoes, undo-promised, unread-undoable}
 use Rattle.step.specs.Backward as Step
@@ -150,6 +151,10 @@ module _ (s : Script) (w : ShapedScript s) (n : Images.Net) (v : ShapedNet n) (r
           promised =
               subst (λ (o : Change). Undoes s net k o) (sym change-is)
               (undo-promised s w (p .good .script) net (g .shaped .slots) net-accepted k)
+
+          -- which no check refuses
+          pub rolling-may : isDone (c .answer) ≡ true
+          rolling-may = promised .done rolling-undoable
 
           pub rolling-next : (more : Localities) → more ≡ localities (bitOr (freed .0) (c .touched .0)) → (rest : Keys) → rest ≡ excluding left k
               → (after : Images.Net) → after ≡ applied net c → Rolling (turn + 1) more rest after

@@ -1,6 +1,6 @@
 -- One pass over the slots finds whether a past read used either of two keys.
 -- In order: a node that reads, from the place that was looked up (`reads-looked`); one slot, by what the pass looks at (`no-event`, `neither`,
--- `by-node-no`, `by-node-yes`), and by the two keys apart (`either-one`, `either-two`, `either-none`); all slots (`unread-both`).
+-- `reads-no`, `reads-yes`, `by-node-no`, `by-node-yes`), and by the two keys apart (`either-one`, `either-two`, `either-none`); all slots (`unread-both`).
 -- Assumes nothing.
 use Prim.Native.Nat.{ℕ}
 use mathlib.Core.Path.{_≡_, ap, sym, _∙_, subst}
@@ -38,21 +38,27 @@ module _ (s : Script) (x : Slot) (one two : Key) where
   unfolding readsEither
   neither h = cases (eqb (x .kind) 2) (λ t. rw (t, h)) (λ t. rw t)
 
+  -- by its node
+  pub reads-no : isRead (nodeWith s (x .node) .kind) ≡ false → not (readsEither s x one two) ≡ true
+  unfolding readsEither
+  reads-no none =
+      ap not
+      (fails _ (λ t. clash (isRead (nodeWith s (x .node) .kind)) (and-right (isEither (x .used) one two) _ (and-right (eqb (x .kind) 2) _ t)) none))
+
+  pub reads-yes : eqb (x .kind) 2 ≡ true → isEither (x .used) one two ≡ true → isRead (nodeWith s (x .node) .kind) ≡ true → not (readsEither s x one two) ≡ false
+  unfolding readsEither
+  reads-yes past used h = ap not (and-both (eqb (x .kind) 2) _ past (and-both (isEither (x .used) one two) _ used h))
+
   -- the node at the place that was looked up
   module _ (p : ℕ) (is-p : p ≡ nodeIndex (x .node)) (b : Bool) (is-b : b ≡ readsAt (x .node) (actionAt s p .kind)) where
     the-node : b ≡ isRead (nodeWith s (x .node) .kind)
     the-node = is-b ∙ reads-looked s (x .node) p is-p
 
     pub by-node-no : b ≡ false → not (readsEither s x one two) ≡ true
-    unfolding readsEither
-    by-node-no h =
-        let none : isRead (nodeWith s (x .node) .kind) ≡ false = sym the-node ∙ h in
-        ap not
-        (fails _ (λ t. clash (isRead (nodeWith s (x .node) .kind)) (and-right (isEither (x .used) one two) _ (and-right (eqb (x .kind) 2) _ t)) none))
+    by-node-no h = reads-no (sym the-node ∙ h)
 
     pub by-node-yes : eqb (x .kind) 2 ≡ true → isEither (x .used) one two ≡ true → b ≡ true → not (readsEither s x one two) ≡ false
-    unfolding readsEither
-    by-node-yes past used h = ap not (and-both (eqb (x .kind) 2) _ past (and-both (isEither (x .used) one two) _ used (sym the-node ∙ h)))
+    by-node-yes past used h = reads-yes past used (sym the-node ∙ h)
 
   -- ---- of either key: of the one or of the other
 

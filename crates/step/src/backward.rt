@@ -64,7 +64,7 @@ fn read_live(kind: u8, used: Key, t: Slot) -> bool
 }
 
 // The key is the one or the other.
-fn is_either(k: Key, one: Key, two: Key) -> bool
+pub fn is_either(k: Key, one: Key, two: Key) -> bool
     ensures { λ r. ⌜ r ≡ isEither k one two ⌝ }
 {
     if !k.is_key() {
@@ -132,7 +132,7 @@ fn can_undo(a: Action, x: Slot, first: Slot, second: Slot, t: Slot, unread: bool
     told(unread)
 }
 
-fn backward_answer(
+pub fn backward_answer(
     a: Action,
     x: Slot,
     first: Slot,
@@ -158,7 +158,7 @@ fn backward_answer(
 // ---- what the event made is taken back
 
 // The second thing made becomes free, or the tuple that an in took is live again.
-fn backward_other(a: Action, x: Slot, t: Slot) -> Put
+pub fn backward_other(a: Action, x: Slot, t: Slot) -> Put
     ensures { λ r. ⌜ r ≡ backwardOther a x t ⌝ }
 {
     let second = x.second;
@@ -174,7 +174,7 @@ fn backward_other(a: Action, x: Slot, t: Slot) -> Put
     nowhere()
 }
 
-fn present_before(kind: u8, present: Localities, l: Locality) -> Localities
+pub fn present_before(kind: u8, present: Localities, l: Locality) -> Localities
     ensures { λ r. ⌜ r ≡ presentBefore kind present l ⌝ }
 {
     if kind != Action::NEWLOC {
@@ -187,7 +187,7 @@ fn present_before(kind: u8, present: Localities, l: Locality) -> Localities
 }
 
 // The localities with that of a slot which becomes free.
-fn freed_at(set: Localities, k: Key, x: Slot) -> Localities
+pub fn freed_at(set: Localities, k: Key, x: Slot) -> Localities
     ensures { λ r. ⌜ r ≡ freedAt set k x ⌝ }
 {
     if !k.is_key() {

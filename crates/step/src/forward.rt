@@ -38,7 +38,7 @@ use requests::Answer;
 use requests::Request;
 
 // Checks 4 to 11, of the process x at the node a, with the tuple t and the slots of the fresh keys.
-fn forward_answer(
+pub fn forward_answer(
     a: Action,
     x: Slot,
     t: Slot,
@@ -79,7 +79,7 @@ fn forward_answer(
 }
 
 // The process becomes past and keeps its contents.
-fn past_slot(x: Slot, r: Request) -> Slot
+pub fn past_slot(x: Slot, r: Request) -> Slot
     ensures { λ o. ⌜ o ≡ pastSlot x r ⌝ }
 {
     let locality = x.locality;
@@ -105,7 +105,7 @@ fn past_slot(x: Slot, r: Request) -> Slot
 }
 
 // What an out, an eval or a split makes besides, or the tuple that an in takes.
-fn forward_other(a: Action, x: Slot, t: Slot, r: Request) -> Put
+pub fn forward_other(a: Action, x: Slot, t: Slot, r: Request) -> Put
     ensures { λ o. ⌜ o ≡ forwardOther a x t r ⌝ }
 {
     if makes_second(a.kind) {
@@ -121,7 +121,7 @@ fn forward_other(a: Action, x: Slot, t: Slot, r: Request) -> Put
     nowhere()
 }
 
-fn present_after(kind: u8, present: Localities, l: Locality) -> Localities
+pub fn present_after(kind: u8, present: Localities, l: Locality) -> Localities
     ensures { λ r. ⌜ r ≡ presentAfter kind present l ⌝ }
 {
     if kind != Action::NEWLOC {

@@ -2,7 +2,7 @@
 // and the present set. A refusal changes nothing. Whoever holds the net writes the change.
 ghost use mathlib.Core.Path.{_≡_};
 ghost use Rattle.products.specs.Body.{bodyOf, fresh};
-ghost use Rattle.step.specs.Change.{nowhere, putIn, putOr, applied, refused};
+ghost use Rattle.step.specs.Change.{nowhere, putIn, applied, refused};
 use images::Net;
 use images::Slot;
 use images::net_image::free_slot;
@@ -14,6 +14,7 @@ use requests::Answer;
 pub mod backward;
 pub mod checks;
 pub mod forward;
+pub mod in_place;
 
 // Whether a check of document 01's table holds.
 pub enum Check {
@@ -101,17 +102,6 @@ fn put_in(n: Net, p: Put) -> Net
     let mut next = n;
     next.slots[i] = slot;
     next
-}
-
-// What stands at a key once the put is written, where old stood at its place: whoever holds the net writes it there.
-pub fn put_or(p: Put, old: Slot) -> Slot
-    ensures { λ r. ⌜ r ≡ putOr p old ⌝ }
-{
-    let k = p.key;
-    if k.is_key() {
-        return p.slot;
-    }
-    old
 }
 
 // The net once the change is written.

@@ -1,23 +1,24 @@
 -- What each turn of a loop over the events finds: the laws that its proof applies, over plain variables.
 --
--- In order: a node that is none (`no-node`), a deed from what was looked up (`deed-looked`); numbers that rows speak of, and whether each was spoken of once, at any width W (`Seen`, `seen`,
--- `saw`), with one row more, of no number, one, or two (`seen-none`, `seen-one`, `seen-two`); events as a set, with one slot more
--- (`event-none`, `event-more`); marks of keys and of localities, with one row more (`keys-none`, `keys-one`, `keys-two`); what one
--- event more made or used (`made-none`, `made-more`, `used-none`, `used-more`, `place-none`, `place-more`); no event yet (`keys-start`,
--- `places-start`); users of tuples, with no event yet and one event more (`users-start`, `users-none`, `users-more`); the
--- rows of dependence (`rows-are`), from what was looked up (`key-looked`, `read-looked`, `row-looked`).
+-- In order: a slot that was looked up holds an event or none (`event-is`); the kind of a node that was looked up (`no-node`, `node-kind`,
+-- `whole-script`); the deeds, with one slot more (`deeds-start`, `deeds-none`, `deeds-more`,
+-- `deeds-all`); numbers that rows speak of, and whether each was spoken of once, at any width W (`Seen`, `seen`, `saw`), with one row more, of
+-- no number, one, or two (`seen-none`, `seen-one`, `seen-two`); events as a set, with one slot more (`event-none`, `event-more`); marks of keys
+-- and of localities, with one row more (`keys-none`, `keys-one`, `keys-two`); what one event more made or used (`made-none`, `made-more`,
+-- `used-none`, `used-more`, `place-none`, `place-more`); no event yet (`keys-start`, `places-start`); users of tuples, with no event yet and one
+-- slot more (`users-start`, `users-none`, `users-away`, `users-more`); a row from what was looked up (`place-found`,
+-- `key-looked`, `read-looked`, `row-looked`); the rows of dependence, with one slot more (`rows-start`, `rows-none`, `rows-more`, `rows-all`).
 -- Assumes nothing.
-use mathlib.Core.Path.{_≡_, refl, sym, ap, ap₂, _∙_}
-use mathlib.Core.Bool.{Bool, true, false, not, _&&_, _||_, and-true, or-false}
+use mathlib.Core.Path.{_≡_, refl, sym, ap, ap₂, _∙_, subst}
+use mathlib.Core.Bool.{Bool, true, false, not, _&&_, _||_, and-true, and-false, or-false}
 use mathlib.Core.Logic.{_≢_}
 use mathlib.Core.List.{List}
 use Prim.Native.Nat.{ℕ, _+_, _≤_, _<_}
 use native.Mathlib.Nat.{not-suc-le-zero}
 use native.Mathlib.Omega.{arith}
 use lib.Dec.{eqb, ltb}
-use lib.ListN.{length, getD, set, replicate, length-set, length-replicate, getD-replicate, List·getD-eq-default}
+use lib.ListN.{length, set, replicate, length-replicate, getD-replicate, List·getD-eq-default}
 use lib.Pow.{pow-pos}
-use lib.Seq.{getD-set-same, getD-set-other}
 use borrow.Author.Tests.{eqb-true, eqb-false, eq-eqb, ne-eqb, ltb-true, ltb-false, lt-ltb}
 use Rattle.laws.specs.Choice.{pick, cases, agree}
 use Rattle.laws.specs.Lists.{tab, tab-of, tab-ext, length-tab, getD-tab}
@@ -25,7 +26,7 @@ use Rattle.laws.specs.Sets.{member, including, member-including-other, member-e
 use Rattle.order.specs.KeySets.{Set, only, _∪_, _∩_, any, any-not}
 use Rattle.order.specs.Distinct.{gathered, gathered-next, distinct, distinct-next, row-none, row-one, row-two}
 use Rattle.order.specs.Words.{wordOf, wordOf-in, wordOf-is, wordOf-next, wordOf-ext, wordOf-more}
-use Rattle.names.specs.Names.{keyCount, localityCount, nodeCount, key, isKey, isNode}
+use Rattle.names.specs.Names.{keyCount, localityCount, nodeCount, isKey, isNode}
 use Rattle.names.specs.KeySets.{keys, either}
 use Rattle.names.specs.Localities.{localities}
 use Rattle.names.specs.declared.Key.{Key}
@@ -34,29 +35,70 @@ use Rattle.names.specs.declared.Locality.{Locality}
 use Rattle.names.specs.declared.Node.{Node}
 use Rattle.images.specs.Script.{action0, actionAt}
 use Rattle.images.specs.Net.{slotAt, indexOf}
-use Rattle.images.specs.Read.{nodeIndex}
+use Rattle.images.specs.Lookup.{index-below}
+use Rattle.images.specs.Head.{partAt}
+use Rattle.images.specs.Read.{actionOf, scriptOf, nodeWith}
 use Rattle.images.specs.declared.Action.{Action}
 use Rattle.images.specs.declared.Script.{Script}
 use Rattle.images.specs.declared.Slot.{Slot}
 use Rattle.images.specs.declared.Net.{Net}
-use Rattle.traces.specs.Traces.{deedOf, deedBy, deedAt, isEvent, madeAt, usedAt, placeAt, markedKey, markedKeys, markedPlace, keyMarks, placeMarks, withUser, usersBelow, usersOf, keysAt, afterKeyBy, afterReadBy, afterKey, afterRead, rowOf, rowsOf}
+use Rattle.traces.specs.Traces.{deedOf, deedsOf, deedAt, isEvent, madeAt, usedAt, placeAt, markedKey, markedKeys, markedPlace, keyMarks, placeMarks, keysAt, usersAt, usersBelow, usersOf, afterKeyBy, afterReadBy, afterKey, afterRead, rowOf, rowAt, rowsOf}
 use Rattle.traces.specs.declared.KeyMarks.{KeyMarks}
 use Rattle.traces.specs.declared.PlaceMarks.{PlaceMarks}
-use Rattle.traces.specs.declared.Users.{Users}
+use Rattle.traces.specs.Fill.{store-tab, filled, filled-start, filled-blank, filled-store, filled-all}
+
+-- ---- what each event did
+
+-- a slot that was looked up holds an event or none
+event-is : (n : Net) (e : ℕ) (x : Slot) {b : Bool} → x ≡ slotAt n e → eqb (x .kind) 2 ≡ b → isEvent n e ≡ b
+event-is n e x is p = sym (ap (λ (y : Slot). eqb (y .kind) 2) is) ∙ p
 
 -- a number that is no node's does nothing
-pub no-node : (s : Script) (i : ℕ) → length (s .nodes) ≡ nodeCount → nodeCount ≤ i → actionAt s i .kind ≡ 0
+no-node : (s : Script) (i : ℕ) → length (s .nodes) ≡ nodeCount → nodeCount ≤ i → actionAt s i .kind ≡ 0
 no-node s i e h = ap (λ (a : Action). a .kind) (List·getD-eq-default (s .nodes) action0 (omega (arith, e)))
 
--- a deed from what the code looked up
-pub deed-looked : (s : Script) → length (s .nodes) ≡ nodeCount → (x : Slot) (p d : ℕ) → p ≡ nodeIndex (x .node) → d ≡ deedBy (x .kind) (x .node) (actionAt s p .kind) → d ≡ deedOf s x
-unfolding deedBy deedOf
-deed-looked s whole x p d is-p is-d =
-    is-d ∙ ap (λ (i : ℕ). pick (eqb (x .kind) 2) (pick (isNode (x .node)) (actionAt s i .kind) 0) 0) is-p ∙
-    ap (λ (k : ℕ). pick (eqb (x .kind) 2) k 0) (by-node (x .node))
-  where
-    by-node : (k : Node) → pick (isNode k) (actionAt s (nodeIndex k) .kind) 0 ≡ actionAt s (k .0) .kind
-    by-node k = cases (isNode k) (λ t. rw t) (λ t. rw t (sym (no-node s (k .0) whole (ltb-false (k .0) nodeCount t))))
+node-kind : (s : Script) → length (s .nodes) ≡ nodeCount → (k : Node) → nodeWith s k .kind ≡ actionAt s (k .0) .kind
+node-kind s whole k =
+    cases (isNode k) (λ t. rw t) (λ t. rw t (sym (no-node s (k .0) whole (ltb-false (k .0) nodeCount t))))
+
+-- a script that was taken apart has all its nodes
+pub whole-script : (b : List ℕ) → length (scriptOf b .nodes) ≡ nodeCount
+unfolding scriptOf
+whole-script b = length-tab nodeCount (λ i. actionOf (partAt 32 b i))
+
+-- the deeds of the first slots, of the script that the image b holds
+module _ (b : List ℕ) (n : Net) where
+  abbrev deed : ℕ → ℕ
+  deed e = deedOf (scriptOf b) (slotAt n e)
+
+  abbrev pub deedsBelow : ℕ → List ℕ
+  deedsBelow e = filled keyCount (λ e. deedOf (scriptOf b) (slotAt n e)) 0 e
+
+  pub deeds-start : replicate keyCount 0 ≡ deedsBelow 0
+  deeds-start = filled-start keyCount deed 0
+
+  pub deeds-all : deedsBelow keyCount ≡ deedsOf (scriptOf b) n
+  unfolding deedsOf
+  deeds-all = filled-all keyCount deed 0
+
+  -- with one slot more, which holds no event or holds one, whose node was looked up
+  module _ (e : ℕ) (ds : List ℕ) (h : ds ≡ deedsBelow e) (x : Slot) (is : x ≡ slotAt n e) where
+    pub deeds-none : eqb (x .kind) 2 ≡ false → ds ≡ deedsBelow (e + 1)
+    unfolding deedOf
+    deeds-none p =
+        h ∙
+        filled-blank keyCount deed 0 e
+        (ap (λ (c : Bool). pick c (actionAt (scriptOf b) (slotAt n e .node .0) .kind) 0) (event-is n e x is p))
+
+    pub deeds-more : (a : Action) → eqb (x .kind) 2 ≡ true → e < keyCount → a ≡ nodeWith (scriptOf b) (x .node) → set ds e (a .kind) ≡ deedsBelow (e + 1)
+    unfolding deedOf
+    deeds-more a p l found =
+        let by : a .kind ≡ actionAt (scriptOf b) (slotAt n e .node .0) .kind =
+        ap (λ (y : Action). y .kind) found ∙ node-kind (scriptOf b) (whole-script b) (x .node) ∙
+        ap (λ (y : Slot). actionAt (scriptOf b) (y .node .0) .kind) is in
+        let did : a .kind ≡ deed e =
+        by ∙ sym (ap (λ (c : Bool). pick c (actionAt (scriptOf b) (slotAt n e .node .0) .kind) 0) (event-is n e x is p)) in
+        ap (λ (l : List ℕ). set l e (a .kind)) h ∙ filled-store keyCount deed 0 e (a .kind) l did
 
 same-number : (a b : ℕ) → eqb a b ≡ eqb b a
 same-number a b = agree (eqb a b) (eqb b a) (λ t. eq-eqb b a (sym (eqb-true a b t))) (λ t. eq-eqb a b (sym (eqb-true b a t)))
@@ -141,11 +183,14 @@ module _ (W i : ℕ) (Q : ℕ → Set) where
 -- ---- events as a set
 
 -- with one slot more, which holds no event or holds one
-pub event-none : (n : Net) (e : ℕ) (s : Keys) → s ≡ keys (wordOf e (isEvent n)) → isEvent n e ≡ false → s ≡ keys (wordOf (e + 1) (isEvent n))
-event-none n e s h p = h ∙ sym (ap keys (wordOf-next e (isEvent n) ∙ rw p))
+module _ (n : Net) (e : ℕ) (s : Keys) (h : s ≡ keys (wordOf e (isEvent n))) (x : Slot) (is : x ≡ slotAt n e) where
+  pub event-none : eqb (x .kind) 2 ≡ false → s ≡ keys (wordOf (e + 1) (isEvent n))
+  event-none p = h ∙ sym (ap keys (wordOf-next e (isEvent n) ∙ rw (event-is n e x is p)))
 
-pub event-more : (n : Net) (e : ℕ) (s : Keys) → s ≡ keys (wordOf e (isEvent n)) → isEvent n e ≡ true → keys (including (s .0) e) ≡ keys (wordOf (e + 1) (isEvent n))
-event-more n e s h p = ap (λ (x : Keys). keys (including (x .0) e)) h ∙ sym (ap keys (wordOf-next e (isEvent n) ∙ rw p))
+  pub event-more : eqb (x .kind) 2 ≡ true → keys (including (s .0) e) ≡ keys (wordOf (e + 1) (isEvent n))
+  event-more p =
+      ap (λ (y : Keys). keys (including (y .0) e)) h ∙
+      sym (ap keys (wordOf-next e (isEvent n) ∙ rw (event-is n e x is p)))
 
 -- ---- marks of keys
 
@@ -187,23 +232,23 @@ module _ (i : ℕ) (Q : ℕ → Set) where
           ap (λ (m : KeyMarks). markedKey m b) (marked-key (seen keyCount i Q) a)
 
 -- the keys that events made, with one more slot, which holds no event or holds one
-module _ (n : Net) (e : ℕ) (m : KeyMarks) (h : m ≡ keyMarks e (madeAt n)) where
-  pub made-none : isEvent n e ≡ false → m ≡ keyMarks (e + 1) (madeAt n)
-  made-none p = h ∙ sym (keys-none e (madeAt n) (λ k l. rw p))
+module _ (n : Net) (e : ℕ) (m : KeyMarks) (h : m ≡ keyMarks e (madeAt n)) (x : Slot) (is : x ≡ slotAt n e) where
+  pub made-none : eqb (x .kind) 2 ≡ false → m ≡ keyMarks (e + 1) (madeAt n)
+  made-none p = h ∙ sym (keys-none e (madeAt n) (λ k l. rw (event-is n e x is p)))
 
-  pub made-more : isEvent n e ≡ true → markedKeys m (slotAt n e .first) (slotAt n e .second) ≡ keyMarks (e + 1) (madeAt n)
+  pub made-more : eqb (x .kind) 2 ≡ true → markedKeys m (x .first) (x .second) ≡ keyMarks (e + 1) (madeAt n)
   made-more p =
-      ap (λ (x : KeyMarks). markedKeys x (slotAt n e .first) (slotAt n e .second)) h ∙
-      sym (keys-two e (madeAt n) (slotAt n e .first) (slotAt n e .second) (λ k l. rw (p, lt-ltb k keyCount l)))
+      (λ i. markedKeys (h i) (is i .first) (is i .second)) ∙
+      sym (keys-two e (madeAt n) (slotAt n e .first) (slotAt n e .second) (λ k l. rw (event-is n e x is p, lt-ltb k keyCount l)))
 
 -- the tuples that events used whose deed is d, with one more slot
 module _ (d : ℕ) (ds : List ℕ) (n : Net) (e : ℕ) (m : KeyMarks) (h : m ≡ keyMarks e (usedAt d ds n)) where
   pub used-none : eqb (deedAt ds e) d ≡ false → m ≡ keyMarks (e + 1) (usedAt d ds n)
   used-none p = h ∙ sym (keys-none e (usedAt d ds n) (λ k l. rw p))
 
-  pub used-more : eqb (deedAt ds e) d ≡ true → markedKey m (slotAt n e .used) ≡ keyMarks (e + 1) (usedAt d ds n)
-  used-more p =
-      ap (λ (x : KeyMarks). markedKey x (slotAt n e .used)) h ∙
+  pub used-more : eqb (deedAt ds e) d ≡ true → (x : Slot) → x ≡ slotAt n e → markedKey m (x .used) ≡ keyMarks (e + 1) (usedAt d ds n)
+  used-more p x is =
+      (λ i. markedKey (h i) (is i .used)) ∙
       sym (keys-one e (usedAt d ds n) (slotAt n e .used) (λ k l. rw p))
 
 -- ---- marks of localities
@@ -221,10 +266,10 @@ module _ (ds : List ℕ) (n : Net) (e : ℕ) (m : PlaceMarks) (h : m ≡ placeMa
   unfolding placeMarks
   place-none p = h ∙ sym (ap placeMarksOf (seen-none localityCount e (placeAt ds n) (λ l _. rw p)))
 
-  pub place-more : eqb (deedAt ds e) 4 ≡ true → markedPlace m (slotAt n e .place) ≡ placeMarks (e + 1) (placeAt ds n)
+  pub place-more : eqb (deedAt ds e) 4 ≡ true → (x : Slot) → x ≡ slotAt n e → markedPlace m (x .place) ≡ placeMarks (e + 1) (placeAt ds n)
   unfolding placeMarks
-  place-more p =
-      ap (λ (x : PlaceMarks). markedPlace x (slotAt n e .place)) h ∙
+  place-more p x is =
+      (λ i. markedPlace (h i) (is i .place)) ∙
       sym
       (ap placeMarksOf
       (seen-one localityCount e (placeAt ds n) (slotAt n e .place .0) (λ l _. rw p (same-number (slotAt n e .place .0) l))) ∙
@@ -248,76 +293,55 @@ places-start Q = λ t. record { once = true; set = localities (no-numbers locali
 
 -- ---- users of tuples
 
--- a table with one element stored is the table of what agrees elsewhere
-store-tab : {A : Type 0} (k : ℕ) (f g : ℕ → A) (u : ℕ) (v d : A) → u < k → v ≡ g u → ((t : ℕ) → t ≢ u → f t ≡ g t) → set (tab k f) u v ≡ tab k g
-store-tab k f g u v d l e h =
-    tab-of k g (set (tab k f) u v) d (length-set (tab k f) u v ∙ length-tab k f)
-    (λ t m.
-    cases (eqb t u)
-    (λ p. rw (eqb-true t u p) (getD-set-same (tab k f) u v d (rw (length-tab k f) l) ∙ e))
-    (λ p. getD-set-other (tab k f) u t v d (eqb-false t u p) ∙ getD-tab k f t d m ∙ h t (eqb-false t u p)))
-
 module _ (d : ℕ) (ds : List ℕ) (n : Net) where
-  -- the users of the tuple t among the first e events, and with one event more
-  abbrev usersAt : ℕ → ℕ → Keys
-  usersAt e t = keys (wordOf e (λ f. usedAt d ds n f t))
-
-  users-next : (e t : ℕ) → usersAt (e + 1) t ≡ pick (usedAt d ds n e t) (keys (including (usersAt e t .0) e)) (usersAt e t)
+  -- the users of a tuple, with one event more
+  users-next : (e t : ℕ) → usersAt d ds n (e + 1) t ≡ pick (usedAt d ds n e t) (keys (including (usersAt d ds n e t .0) e)) (usersAt d ds n e t)
   users-next e t =
       ap keys (wordOf-next e (λ f. usedAt d ds n f t)) ∙ cases (usedAt d ds n e t) (λ p. rw p) (λ p. rw p)
 
-  pub users-start : record { of = replicate keyCount (keys 0) } ≡ usersBelow 0 d ds n
+  pub users-start : replicate keyCount (keys 0) ≡ usersBelow 0 d ds n
   unfolding usersBelow wordOf
   users-start =
-      let none = tab-of keyCount (usersAt 0) (replicate keyCount (keys 0)) (keys 0) (length-replicate keyCount (keys 0)) (λ t l. getD-replicate keyCount t (keys 0) (keys 0) l) in
-      λ i. record { of = none i }
+      tab-of keyCount (usersAt d ds n 0) (replicate keyCount (keys 0)) (keys 0) (length-replicate keyCount (keys 0)) (λ t l. getD-replicate keyCount t (keys 0) (keys 0) l)
 
   -- one event more that used no tuple, or only the tuple u
-  same-users : (e : ℕ) → ((t : ℕ) → t < keyCount → usedAt d ds n e t ≡ false) → tab keyCount (usersAt (e + 1)) ≡ tab keyCount (usersAt e)
-  same-users e h = tab-ext keyCount (usersAt (e + 1)) (usersAt e) (λ t l. users-next e t ∙ rw (h t l))
+  same-users : (e : ℕ) → ((t : ℕ) → t < keyCount → usedAt d ds n e t ≡ false) → usersBelow e d ds n ≡ usersBelow (e + 1) d ds n
+  unfolding usersBelow
+  same-users e h = sym (tab-ext keyCount (usersAt d ds n (e + 1)) (usersAt d ds n e) (λ t l. users-next e t ∙ rw (h t l)))
 
-  more-users : (e u : ℕ) → u < keyCount → usedAt d ds n e u ≡ true → ((t : ℕ) → t ≢ u → usedAt d ds n e t ≡ false) → tab keyCount (usersAt (e + 1)) ≡ set (tab keyCount (usersAt e)) u (keys (including (getD (tab keyCount (usersAt e)) u (keys 0) .0) e))
+  more-users : (e u : ℕ) → u < keyCount → usedAt d ds n e u ≡ true → ((t : ℕ) → t ≢ u → usedAt d ds n e t ≡ false) → set (usersBelow e d ds n) u (keys (including (keysAt (usersBelow e d ds n) u .0) e)) ≡ usersBelow (e + 1) d ds n
+  unfolding usersBelow
   more-users e u l h g =
-      let there = ap (λ (s : Keys). keys (including (s .0) e)) (getD-tab keyCount (usersAt e) u (keys 0) l) in
-      sym
-      (store-tab keyCount (usersAt e) (usersAt (e + 1)) u _ (keys 0) l (there ∙ sym (users-next e u ∙ rw h))
-      (λ t z. sym (users-next e t ∙ rw (g t z))))
+      let there = ap (λ (s : Keys). keys (including (s .0) e)) (getD-tab keyCount (usersAt d ds n e) u (keys 0) l) in
+      store-tab keyCount (usersAt d ds n e) (usersAt d ds n (e + 1)) u _ (keys 0) l (there ∙ sym (users-next e u ∙ rw h))
+      (λ t z. sym (users-next e t ∙ rw (g t z)))
 
-  -- one slot more
-  module _ (e : ℕ) (us : Users) (h : us ≡ usersBelow e d ds n) where
+  -- one slot more: of another deed, or one that used what is no tuple, or the tuple that was looked up
+  module _ (e : ℕ) (us : List Keys) (h : us ≡ usersBelow e d ds n) where
     pub users-none : eqb (deedAt ds e) d ≡ false → us ≡ usersBelow (e + 1) d ds n
-    unfolding usersBelow
-    users-none p = let same = same-users e (λ t l. rw p) in h ∙ (λ i. record { of = sym same i })
+    users-none p = h ∙ same-users e (λ t l. rw p)
 
-    pub users-more : eqb (deedAt ds e) d ≡ true → withUser us (slotAt n e .used) (key e) ≡ usersBelow (e + 1) d ds n
-    unfolding usersBelow withUser
-    users-more p = ap (λ (x : Users). withUser x (slotAt n e .used) (key e)) h ∙ cases (ltb used keyCount) within beyond
-      where
-        used : ℕ
-        used = slotAt n e .used .0
+    pub users-away : (x : Slot) → x ≡ slotAt n e → isKey (x .used) ≡ false → us ≡ usersBelow (e + 1) d ds n
+    users-away x is q =
+        let u = slotAt n e .used .0 in
+        let far : ltb u keyCount ≡ false = sym (ap (λ (y : Slot). isKey (y .used)) is) ∙ q in
+        h ∙ same-users e (λ t l. rw (ne-eqb u t (λ z. omega (arith, ltb-false u keyCount far))) (and-false (eqb (deedAt ds e) d)))
 
-        within : ltb used keyCount ≡ true → withUser (usersBelow e d ds n) (key used) (key e) ≡ usersBelow (e + 1) d ds n
-        within q =
-            let more =
-            more-users e used (ltb-true used keyCount q) (rw p (eq-eqb used used refl)) (λ t z. rw p (ne-eqb used t (λ x. z (sym x)))) in
-            rw q (λ i. record { of = sym more i })
-
-        beyond : ltb used keyCount ≡ false → withUser (usersBelow e d ds n) (key used) (key e) ≡ usersBelow (e + 1) d ds n
-        beyond q =
-            let same = same-users e (λ t l. rw p (ne-eqb used t (λ z. omega (arith, ltb-false used keyCount q)))) in
-            rw q (λ i. record { of = sym same i })
+    pub users-more : eqb (deedAt ds e) d ≡ true → (x : Slot) → x ≡ slotAt n e → isKey (x .used) ≡ true → (more : Keys) → more ≡ keys (including (keysAt us (x .used .0) .0) e) → set us (x .used .0) more ≡ usersBelow (e + 1) d ds n
+    users-more p x is q more given =
+        let u = slotAt n e .used .0 in
+        let near : ltb u keyCount ≡ true = sym (ap (λ (y : Slot). isKey (y .used)) is) ∙ q in
+        ap (set us (x .used .0)) given ∙ (λ i. set (h i) (is i .used .0) (keys (including (keysAt (h i) (is i .used .0) .0) e))) ∙
+        more-users e u (ltb-true u keyCount near) (rw p (eq-eqb u u refl)) (λ t z. rw p (ne-eqb u t (λ y. z (sym y))))
 
 -- ---- who depends on whom
 
--- an array whose elements are the rows, by the takers and readers of the tuples, is all rows
-pub rows-are : (ds : List ℕ) (n : Net) (events : Keys) (takers readers : Users) (rows : List Keys) → takers ≡ usersOf 2 ds n → readers ≡ usersOf 3 ds n → length rows ≡ keyCount → ((e : ℕ) → e < keyCount → getD rows e (keys 0) ≡ rowOf (deedAt ds e) (slotAt n e) events takers readers) → rows ≡ rowsOf ds n events
-unfolding rowsOf
-rows-are ds n events takers readers rows t r l h =
-    tab-of keyCount (λ e. rowOf (deedAt ds e) (slotAt n e) events takers readers) rows (keys 0) l h ∙
-    ap₂ (λ (x y : Users). tab keyCount (λ e. rowOf (deedAt ds e) (slotAt n e) events x y)) t r
+-- where a key stands is one of the places
+pub place-found : (k : Key) {i : ℕ} → i ≡ indexOf k → i < keyCount
+place-found k e = subst (λ (j : ℕ). j < keyCount) (sym e) (index-below k)
 
 -- a row from the sets that the code looked up
-module _ (takers readers : Users) (k : Key) where
+module _ (takers readers : List Keys) (k : Key) where
   pub key-looked : (i : ℕ) (events : Keys) → i ≡ indexOf k → afterKeyBy events (keysAt takers i) (keysAt readers i) k ≡ afterKey events takers readers k
   unfolding afterKeyBy afterKey
   key-looked i events e = cases (isKey k) (λ t. rw (e, t)) (λ t. rw t)
@@ -326,12 +350,42 @@ module _ (takers readers : Users) (k : Key) where
   unfolding afterReadBy afterRead
   read-looked i deed e = cases (isKey k) (λ t. rw (e, t)) (λ t. rw t)
 
-pub row-looked : (deed : ℕ) (x : Slot) (events : Keys) (takers readers : Users) (f g u : ℕ) (one two three made row : Keys) → f ≡ indexOf (x .first) → g ≡ indexOf (x .second) → u ≡ indexOf (x .used)
+pub row-looked : (deed : ℕ) (x : Slot) (events : Keys) (takers readers : List Keys) {f g u : ℕ} {one two three made row : Keys} → f ≡ indexOf (x .first) → g ≡ indexOf (x .second) → u ≡ indexOf (x .used)
     → one ≡ afterKeyBy events (keysAt takers f) (keysAt readers f) (x .first) → two ≡ afterKeyBy events (keysAt takers g) (keysAt readers g) (x .second) → three ≡ afterReadBy deed (keysAt takers u) (x .used)
     → made ≡ either one two → row ≡ either made three → row ≡ rowOf deed x events takers readers
 unfolding rowOf
-row-looked deed x events takers readers f g u one two three made row is-f is-g is-u is-one is-two is-three is-made is-row =
+row-looked deed x events takers readers {f} {g} {u} {one} {two} {three} {made} {row} is-f is-g is-u is-one is-two is-three is-made is-row =
     let first : one ≡ afterKey events takers readers (x .first) = is-one ∙ key-looked takers readers (x .first) f events is-f in
     let second : two ≡ afterKey events takers readers (x .second) = is-two ∙ key-looked takers readers (x .second) g events is-g in
     let third : three ≡ afterRead deed takers (x .used) = is-three ∙ read-looked takers readers (x .used) u deed is-u in
     is-row ∙ ap (λ (m : Keys). either m three) is-made ∙ (λ i. either (either (first i) (second i)) (third i))
+
+-- the rows of the first slots, by the takers and readers of the tuples
+module _ (ds : List ℕ) (n : Net) (events : Keys) (takers readers : List Keys) where
+  abbrev pub rowsBelow : ℕ → List Keys
+  rowsBelow e = filled keyCount (rowAt ds n events takers readers) (keys 0) e
+
+  pub rows-start : replicate keyCount (keys 0) ≡ rowsBelow 0
+  rows-start = filled-start keyCount (rowAt ds n events takers readers) (keys 0)
+
+  pub rows-all : takers ≡ usersOf 2 ds n → readers ≡ usersOf 3 ds n → rowsBelow keyCount ≡ rowsOf ds n events
+  unfolding rowsOf
+  rows-all t r =
+      filled-all keyCount (rowAt ds n events takers readers) (keys 0) ∙ (λ i. tab keyCount (rowAt ds n events (t i) (r i)))
+
+  -- with one slot more, which holds no event or holds one
+  module _ (e : ℕ) (rows : List Keys) (h : rows ≡ rowsBelow e) (x : Slot) (is : x ≡ slotAt n e) where
+    pub rows-none : eqb (x .kind) 2 ≡ false → rows ≡ rowsBelow (e + 1)
+    unfolding rowAt
+    rows-none p =
+        h ∙
+        filled-blank keyCount (rowAt ds n events takers readers) (keys 0) e
+        (ap (λ (c : Bool). pick c (rowOf (deedAt ds e) (slotAt n e) events takers readers) (keys 0)) (event-is n e x is p))
+
+    pub rows-more : (row : Keys) → eqb (x .kind) 2 ≡ true → e < keyCount → row ≡ rowOf (deedAt ds e) x events takers readers → set rows e row ≡ rowsBelow (e + 1)
+    unfolding rowAt
+    rows-more row p l made =
+        let by : row ≡ rowAt ds n events takers readers e =
+        made ∙ ap (λ (y : Slot). rowOf (deedAt ds e) y events takers readers) is ∙
+        sym (ap (λ (c : Bool). pick c (rowOf (deedAt ds e) (slotAt n e) events takers readers) (keys 0)) (event-is n e x is p)) in
+        ap (λ (r : List Keys). set r e row) h ∙ filled-store keyCount (rowAt ds n events takers readers) (keys 0) e row l by

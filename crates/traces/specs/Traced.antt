@@ -15,12 +15,12 @@ use lib.Bits.{bitOr}
 use lib.Dec.{eqb, ltb}
 use lib.ListN.{getD}
 use borrow.Author.Tests.{eqb-true, eq-eqb, ne-eqb, ltb-true, ltb-false, lt-ltb}
-use Rattle.laws.specs.Choice.{cases, and-left, and-right, and-both, or-left, or-right, or-cases, agree}
+use Rattle.laws.specs.Choice.{pick, cases, and-left, and-right, and-both, or-left, or-right, or-cases, agree}
 use Rattle.laws.specs.Lists.{getD-tab}
 use Rattle.laws.specs.Sets.{member, member-or, member-empty}
 use Rattle.order.specs.KeySets.{Set, _∈_, any, any-ext}
 use Rattle.order.specs.Distinct.{gathered, distinct, distinct-ext}
-use Rattle.order.specs.Words.{wordOf, wordOf-in, word-including}
+use Rattle.order.specs.Words.{wordOf-in, word-including}
 use Rattle.names.specs.Names.{keyCount, localityCount, key, locality}
 use Rattle.names.specs.KeySets.{keys, isIn, either}
 use Rattle.names.specs.Localities.{holds}
@@ -38,7 +38,7 @@ use Rattle.products.specs.Body.{bodyOf}
 use Rattle.products.specs.Products.{kindOf}
 use Rattle.rules.specs.Instance.{rulesOf, act, same-kind}
 use Rattle.rules.specs.View.{kindAs, past-is, view, view-slot, beyond}
-use Rattle.traces.specs.Traces.{deedOf, deedsOf, deedAt, isEvent, eventsOf, madeAt, usedAt, placeAt, keyMarks, placeMarks, keysMade, localitiesMade, tuplesTaken, keysAt, usersBelow, usersOf, afterKey, afterRead, rowOf, rowsOf}
+use Rattle.traces.specs.Traces.{deedOf, deedsOf, deedAt, isEvent, eventsOf, madeAt, usedAt, placeAt, keyMarks, placeMarks, keysMade, localitiesMade, tuplesTaken, keysAt, usersAt, usersBelow, usersOf, afterKey, afterRead, rowOf, rowAt, rowsOf}
 
 -- ---- what a row says, over any rules
 
@@ -233,7 +233,7 @@ module _ (ds : List ℕ) (n : Images.Net) where
   users-in : (d k f : ℕ) → k < keyCount → f < keyCount → member (keysAt (usersOf d ds n) k .0) f ≡ usedAt d ds n f k
   unfolding usersBelow
   users-in d k f l m =
-      ap (λ (s : Keys). member (s .0) f) (getD-tab keyCount (λ t. keys (wordOf keyCount (λ f. usedAt d ds n f t))) k (keys 0) l) ∙
+      ap (λ (s : Keys). member (s .0) f) (getD-tab keyCount (usersAt d ds n keyCount) k (keys 0) l) ∙
       wordOf-in keyCount (λ f. usedAt d ds n f k) f m
 
   either-in : (k f : ℕ) → k < keyCount → f < keyCount → isIn (either (keysAt (usersOf 2 ds n) k) (keysAt (usersOf 3 ds n) k)) (key f) ≡ (usedAt 2 ds n f k || usedAt 3 ds n f k)
@@ -264,20 +264,28 @@ module _ (ds : List ℕ) (n : Images.Net) where
       cases (ltb t keyCount) (λ q. rw (p, q) (users-in 2 t f (ltb-true t keyCount q) m)) (λ q. rw (p, q) (member-empty f)))
       (λ p. rw p (member-empty f))
 
-  row-in : (e f : ℕ) → e < keyCount → f < keyCount → isIn (getD (rowsOf ds n (eventsOf n)) e (keys 0)) (key f) ≡ ((after (slotAt n e .first .0) f || after (slotAt n e .second .0) f) || (eqb (deedAt ds e) 3 && (ltb (slotAt n e .used .0) keyCount && usedAt 2 ds n f (slotAt n e .used .0))))
-  unfolding rowsOf rowOf
-  row-in e f l m =
+  -- the row of e, if e is an event
+  row-in : (e f : ℕ) → f < keyCount → isIn (rowOf (deedAt ds e) (slotAt n e) (eventsOf n) (usersOf 2 ds n) (usersOf 3 ds n)) (key f) ≡ ((after (slotAt n e .first .0) f || after (slotAt n e .second .0) f) || (eqb (deedAt ds e) 3 && (ltb (slotAt n e .used .0) keyCount && usedAt 2 ds n f (slotAt n e .used .0))))
+  unfolding rowOf
+  row-in e f m =
       let us = usersOf 2 ds n in
       let vs = usersOf 3 ds n in
       let a = afterKey (eventsOf n) us vs (slotAt n e .first) in
       let b = afterKey (eventsOf n) us vs (slotAt n e .second) in
       let r = afterRead (deedAt ds e) us (slotAt n e .used) in
-      ap (λ (s : Keys). member (s .0) f) (getD-tab keyCount (λ e. rowOf (deedAt ds e) (slotAt n e) (eventsOf n) us vs) e (keys 0) l) ∙
       member-or (bitOr (a .0) (b .0)) (r .0) f ∙
       ap₂ (λ (x y : Bool). x || y)
       (member-or (a .0) (b .0) f ∙
       ap₂ (λ (x y : Bool). x || y) (after-key-in (slotAt n e .first .0) f m) (after-key-in (slotAt n e .second .0) f m))
       (after-read-in (deedAt ds e) (slotAt n e .used .0) f m)
+
+  -- the row that the code finds, if e is an event
+  row-of-event : (e f : ℕ) → e < keyCount → isEvent n e ≡ true → isIn (getD (rowsOf ds n (eventsOf n)) e (keys 0)) (key f) ≡ isIn (rowOf (deedAt ds e) (slotAt n e) (eventsOf n) (usersOf 2 ds n) (usersOf 3 ds n)) (key f)
+  unfolding rowsOf rowAt
+  row-of-event e f l p =
+      let row = rowOf (deedAt ds e) (slotAt n e) (eventsOf n) (usersOf 2 ds n) (usersOf 3 ds n) in
+      ap (λ (s : Keys). member (s .0) f)
+      (getD-tab keyCount (rowAt ds n (eventsOf n) (usersOf 2 ds n) (usersOf 3 ds n)) e (keys 0) l ∙ ap (λ (b : Bool). pick b row (keys 0)) p)
 
 module _ (s : Script) (n : Images.Net) where
   -- the same by the theory
@@ -295,9 +303,10 @@ module _ (s : Script) (n : Images.Net) where
       sym (ap (λ (b : Bool). eqb (deedAt (deedsOf s n) e) 3 && b) (eq-eqb (slotAt n e .used .0) (slotAt n e .used .0) refl) ∙ and-true (eqb (deedAt (deedsOf s n) e) 3)) ∙
       read-at s n e (slotAt n e .used .0) l
 
-  row-is : (e f : ℕ) → e < keyCount → f < keyCount → isIn (getD (rowsOf (deedsOf s n) n (eventsOf n)) e (keys 0)) (key f) ≡ inRow (view s n) (view s n .slot e) e f
-  row-is e f l m =
-      row-in (deedsOf s n) n e f l m ∙
+  row-is : (e f : ℕ) → e < keyCount → f < keyCount → e ∈ events (view s n) → isIn (getD (rowsOf (deedsOf s n) n (eventsOf n)) e (keys 0)) (key f) ≡ inRow (view s n) (view s n .slot e) e f
+  row-is e f l m p =
+      row-of-event (deedsOf s n) n e f l (event-at s n e l ∙ p) ∙
+      row-in (deedsOf s n) n e f m ∙
       ap₂ (λ (x y : Bool). x || y)
       (ap₂ (λ (x y : Bool). x || y) (after-is (slotAt n e .first .0) f m) (after-is (slotAt n e .second .0) f m))
       (ap₂ (λ (x y : Bool). x && (ltb (slotAt n e .used .0) keyCount && y)) (read-is-deed e l) (taken-at s n f (slotAt n e .used .0) m)) ∙
@@ -306,7 +315,11 @@ module _ (s : Script) (n : Images.Net) where
   -- f depends directly on e exactly when e is an event and f is in its row
   pub rows-depend : Used (view s n) → (e f : ℕ) → e < keyCount → f < keyCount → (events (view s n) e && isIn (getD (rowsOf (deedsOf s n) n (eventsOf n)) e (keys 0)) (key f)) ≡ depends (view s n) e f
   rows-depend good e f l m =
-      ap (λ (b : Bool). events (view s n) e && b) (row-is e f l m) ∙ row-depends (view s n) good e f
+      when-both (events (view s n) e) (row-is e f l m) ∙ row-depends (view s n) good e f
+    where
+      when-both : (a : Bool) {b c : Bool} → (a ≡ true → b ≡ c) → (a && b) ≡ (a && c)
+      when-both true h = h refl
+      when-both false h = refl
 
   -- an event is a member of the events' word below the number of keys
   pub event-in : (k : ℕ) → (ltb k keyCount && isIn (eventsOf n) (key k)) ≡ events (view s n) k

@@ -4,22 +4,21 @@
 -- users of tuples (`usersOf`); who depends on an event (`rowOf`, `rowsOf`).
 -- Assumes nothing.
 use Prim.Native.Nat.{ℕ}
-use mathlib.Core.Bool.{Bool, true, false, _&&_, _||_, not}
+use mathlib.Core.Bool.{_&&_, _||_, not}
 use mathlib.Core.List.{List}
 use lib.Dec.{eqb, ltb}
-use lib.ListN.{getD, set}
+use lib.ListN.{getD}
 use Rattle.laws.specs.Choice.{pick}
 use Rattle.laws.specs.Lists.{tab}
 use Rattle.order.specs.KeySets.{Set}
 use Rattle.order.specs.Distinct.{gathered, distinct}
 use Rattle.order.specs.Words.{wordOf}
-use Rattle.names.specs.Names.{keyCount, localityCount, key, isKey, isLocality, isNode}
+use Rattle.names.specs.Names.{keyCount, localityCount, isKey, isLocality}
 use Rattle.names.specs.Localities.{localities, holds, joined}
 use Rattle.names.specs.KeySets.{keys, isIn, including, either}
 use Rattle.names.specs.declared.Key.{Key}
 use Rattle.names.specs.declared.Keys.{Keys}
 use Rattle.names.specs.declared.Locality.{Locality}
-use Rattle.names.specs.declared.Node.{Node}
 use Rattle.images.specs.Script.{actionAt}
 use Rattle.images.specs.Net.{slotAt}
 use Rattle.images.specs.declared.Script.{Script}
@@ -27,17 +26,12 @@ use Rattle.images.specs.declared.Slot.{Slot}
 use Rattle.images.specs.declared.Net.{Net}
 use Rattle.traces.specs.declared.KeyMarks.{KeyMarks}
 use Rattle.traces.specs.declared.PlaceMarks.{PlaceMarks}
-use Rattle.traces.specs.declared.Users.{Users}
 
 -- ---- what each event did
 
 -- the kind of an event's node; 0, which is nil's, where the slot holds no event
 unfoldable pub deedOf : Script → Slot → ℕ
 deedOf s x = pick (eqb (x .kind) 2) (actionAt s (x .node .0) .kind) 0
-
--- the same from the slot's kind, its node, and the kind of what was found there
-unfoldable pub deedBy : ℕ → Node → ℕ → ℕ
-deedBy kind p act = pick (eqb kind 2) (pick (isNode p) act 0) 0
 
 unfoldable pub deedsOf : Script → Net → List ℕ
 deedsOf s n = tab keyCount (λ e. deedOf s (slotAt n e))
@@ -94,17 +88,19 @@ tuplesTaken ds n = keyMarks keyCount (usedAt 2 ds n)
 
 -- ---- who depends on whom
 
-abbrev pub keysAt : Users → ℕ → Keys
-keysAt us i = getD (us .of) i (keys 0)
+-- the set that stands for the tuple of key i
+abbrev pub keysAt : List Keys → ℕ → Keys
+keysAt us i = getD us i (keys 0)
 
-unfoldable pub withUser : Users → Key → Key → Users
-withUser us t k = pick (isKey t) (record { of = set (us .of) (t .0) (including (keysAt us (t .0)) k) }) us
+-- those of the first i events that used the tuple t and whose deed is d
+abbrev pub usersAt : ℕ → List ℕ → Net → ℕ → ℕ → Keys
+usersAt d ds n i t = keys (wordOf i (λ f. usedAt d ds n f t))
 
--- for each tuple, those of the first i events that used it and whose deed is d
-unfoldable pub usersBelow : ℕ → ℕ → List ℕ → Net → Users
-usersBelow i d ds n = record { of = tab keyCount (λ t. keys (wordOf i (λ f. usedAt d ds n f t))) }
+-- for each tuple
+unfoldable pub usersBelow : ℕ → ℕ → List ℕ → Net → List Keys
+usersBelow i d ds n = tab keyCount (usersAt d ds n i)
 
-abbrev pub usersOf : ℕ → List ℕ → Net → Users
+abbrev pub usersOf : ℕ → List ℕ → Net → List Keys
 usersOf d ds n = usersBelow keyCount d ds n
 
 -- the same from the sets of those that took and read the tuple of that key
@@ -116,19 +112,23 @@ unfoldable pub afterReadBy : ℕ → Keys → Key → Keys
 afterReadBy deed takes t = pick (eqb deed 3) (pick (isKey t) takes (keys 0)) (keys 0)
 
 -- what depends on who made the key: the event of that key, and the users of that tuple
-unfoldable pub afterKey : Keys → Users → Users → Key → Keys
+unfoldable pub afterKey : Keys → List Keys → List Keys → Key → Keys
 afterKey events takers readers k =
     pick (isKey k)
     (pick (isIn events k) (including (either (keysAt takers (k .0)) (keysAt readers (k .0))) k) (either (keysAt takers (k .0)) (keysAt readers (k .0))))
     (keys 0)
 
 -- what depends on a read of the tuple: who took it
-unfoldable pub afterRead : ℕ → Users → Key → Keys
+unfoldable pub afterRead : ℕ → List Keys → Key → Keys
 afterRead deed takers t = pick (eqb deed 3) (pick (isKey t) (keysAt takers (t .0)) (keys 0)) (keys 0)
 
-unfoldable pub rowOf : ℕ → Slot → Keys → Users → Users → Keys
+unfoldable pub rowOf : ℕ → Slot → Keys → List Keys → List Keys → Keys
 rowOf deed x events takers readers =
     either (either (afterKey events takers readers (x .first)) (afterKey events takers readers (x .second))) (afterRead deed takers (x .used))
 
+-- the row of an event; of a slot that holds none, an empty one
+unfoldable pub rowAt : List ℕ → Net → Keys → List Keys → List Keys → ℕ → Keys
+rowAt ds n events takers readers e = pick (isEvent n e) (rowOf (deedAt ds e) (slotAt n e) events takers readers) (keys 0)
+
 unfoldable pub rowsOf : List ℕ → Net → Keys → List Keys
-rowsOf ds n events = tab keyCount (λ e. rowOf (deedAt ds e) (slotAt n e) events (usersOf 2 ds n) (usersOf 3 ds n))
+rowsOf ds n events = tab keyCount (rowAt ds n events (usersOf 2 ds n) (usersOf 3 ds n))

@@ -1,21 +1,18 @@
 // What the events of a net made and used, found once: the keys and localities made and the tuples taken as sets, and who depends on whom
 // as a set for each event.
 ghost use mathlib.Core.Path.{_≡_};
-ghost use Prim.Native.Nat.{_<_};
-ghost use Rattle.laws.specs.Lists.{tab};
-ghost use Rattle.names.specs.Names.{keyCount};
-ghost use Rattle.traces.specs.Traces.{deedBy, deedsOf, eventsOf, markedKey, markedKeys, markedPlace, keysMade, localitiesMade, tuplesTaken, withUser, usersOf, afterKeyBy, afterReadBy, rowsOf};
+ghost use lib.ListN.{length};
+ghost use Rattle.images.specs.Read.{scriptOf, netOf};
+ghost use Rattle.traces.specs.Traces.{deedsOf, eventsOf, markedKey, markedKeys, markedPlace, keysMade, localitiesMade, tuplesTaken, usersOf, afterKeyBy, afterReadBy, rowsOf};
 use images::Action;
-use images::Net;
-use images::Script;
 use images::Slot;
 use images::net_image::index_of;
-use images::script_image::node_index;
+use images::net_image::slot_at;
+use images::script_image::node_in;
 use names::Key;
 use names::Keys;
 use names::Localities;
 use names::Locality;
-use names::Node;
 
 // Keys that events speak of, and whether each was spoken of once.
 pub struct KeyMarks {
@@ -28,49 +25,36 @@ pub struct PlaceMarks {
     pub set: Localities,
 }
 
-// For each tuple, by its key, the events that used it.
-pub struct Users {
-    pub of: [Keys; Key::COUNT],
-}
-
 // ---- what each event did
 
-// The kind of an event's node; nil where the slot holds no event, or there is no such node.
-fn deed_of(kind: u8, node: Node, act: u8) -> u8
-    ensures { λ r. ⌜ r ≡ deedBy kind node act ⌝ }
-{
-    if kind != Slot::PAST {
-        return Action::NIL;
-    }
-    if !node.is_node() {
-        return Action::NIL;
-    }
-    act
-}
-
-pub fn deeds_of(s: Script, n: Net) -> [u8; Key::COUNT]
-    ensures { λ r. ⌜ r ≡ deedsOf s n ⌝ }
+// The kind of each event's node; nil where a slot holds no event, or there is no such node.
+pub fn deeds_of(script: &[u8], net: &[u8]) -> [u8; Key::COUNT]
+    requires { ⌜ (length (now script) ≡ 2064) × (length (now net) ≡ 3600) ⌝ }
+    ensures { λ r. ⌜ r ≡ deedsOf (scriptOf (now (script .entry))) (netOf (now (net .entry))) ⌝ }
 {
     let mut deeds = [0u8; Key::COUNT];
     let mut i: usize = 0;
     while i < Key::COUNT {
-        let x = n.slots[i];
-        let node = x.node;
-        let p = node_index(node);
-        let act = s.nodes[p].kind;
-        deeds[i] = deed_of(x.kind, node, act);
+        let x = slot_at(net, i);
+        if x.kind == Slot::PAST {
+            let node = x.node;
+            let act = node_in(script, node);
+            deeds[i] = act.kind;
+        }
         i += 1;
     }
     deeds
 }
 
-pub fn events_of(n: Net) -> Keys
-    ensures { λ r. ⌜ r ≡ eventsOf n ⌝ }
+pub fn events_of(net: &[u8]) -> Keys
+    requires { ⌜ length (now net) ≡ 3600 ⌝ }
+    ensures { λ r. ⌜ r ≡ eventsOf (netOf (now (net .entry))) ⌝ }
 {
     let mut events = Keys::EMPTY;
     let mut k: u8 = 0;
     while k < 64 {
-        if n.slots[k as usize].kind == Slot::PAST {
+        let x = slot_at(net, k as usize);
+        if x.kind == Slot::PAST {
             events = events.with(Key(k));
         }
         k += 1;
@@ -121,8 +105,9 @@ fn mark_place(m: PlaceMarks, l: Locality) -> PlaceMarks
     }
 }
 
-pub fn keys_made(n: Net) -> KeyMarks
-    ensures { λ r. ⌜ r ≡ keysMade n ⌝ }
+pub fn keys_made(net: &[u8]) -> KeyMarks
+    requires { ⌜ length (now net) ≡ 3600 ⌝ }
+    ensures { λ r. ⌜ r ≡ keysMade (netOf (now (net .entry))) ⌝ }
 {
     let mut m = KeyMarks {
         once: true,
@@ -130,7 +115,7 @@ pub fn keys_made(n: Net) -> KeyMarks
     };
     let mut i: usize = 0;
     while i < Key::COUNT {
-        let x = n.slots[i];
+        let x = slot_at(net, i);
         if x.kind == Slot::PAST {
             let first = x.first;
             let second = x.second;
@@ -141,8 +126,9 @@ pub fn keys_made(n: Net) -> KeyMarks
     m
 }
 
-pub fn localities_made(deeds: [u8; Key::COUNT], n: Net) -> PlaceMarks
-    ensures { λ r. ⌜ r ≡ localitiesMade deeds n ⌝ }
+pub fn localities_made(deeds: [u8; Key::COUNT], net: &[u8]) -> PlaceMarks
+    requires { ⌜ length (now net) ≡ 3600 ⌝ }
+    ensures { λ r. ⌜ r ≡ localitiesMade deeds (netOf (now (net .entry))) ⌝ }
 {
     let mut m = PlaceMarks {
         once: true,
@@ -151,7 +137,7 @@ pub fn localities_made(deeds: [u8; Key::COUNT], n: Net) -> PlaceMarks
     let mut i: usize = 0;
     while i < Key::COUNT {
         if deeds[i] == Action::NEWLOC {
-            let x = n.slots[i];
+            let x = slot_at(net, i);
             let place = x.place;
             m = mark_place(m, place);
         }
@@ -160,8 +146,9 @@ pub fn localities_made(deeds: [u8; Key::COUNT], n: Net) -> PlaceMarks
     m
 }
 
-pub fn tuples_taken(deeds: [u8; Key::COUNT], n: Net) -> KeyMarks
-    ensures { λ r. ⌜ r ≡ tuplesTaken deeds n ⌝ }
+pub fn tuples_taken(deeds: [u8; Key::COUNT], net: &[u8]) -> KeyMarks
+    requires { ⌜ length (now net) ≡ 3600 ⌝ }
+    ensures { λ r. ⌜ r ≡ tuplesTaken deeds (netOf (now (net .entry))) ⌝ }
 {
     let mut m = KeyMarks {
         once: true,
@@ -170,7 +157,7 @@ pub fn tuples_taken(deeds: [u8; Key::COUNT], n: Net) -> KeyMarks
     let mut i: usize = 0;
     while i < Key::COUNT {
         if deeds[i] == Action::IN {
-            let x = n.slots[i];
+            let x = slot_at(net, i);
             let used = x.used;
             m = mark_key(m, used);
         }
@@ -181,35 +168,23 @@ pub fn tuples_taken(deeds: [u8; Key::COUNT], n: Net) -> KeyMarks
 
 // ---- who depends on whom
 
-// The users of the tuples, with this one.
-fn with_user(users: Users, tuple: Key, k: Key) -> Users
-    requires { ⌜ k .0 < 64 ⌝ }
-    ensures { λ r. ⌜ r ≡ withUser users tuple k ⌝ }
+// For each tuple, by its key, the events of one kind that used it.
+fn users_of(deed: u8, deeds: [u8; Key::COUNT], net: &[u8]) -> [Keys; Key::COUNT]
+    requires { ⌜ length (now net) ≡ 3600 ⌝ }
+    ensures { λ r. ⌜ r ≡ usersOf deed deeds (netOf (now (net .entry))) ⌝ }
 {
-    if !tuple.is_key() {
-        return users;
-    }
-    let i = tuple.0 as usize;
-    let mut next = users;
-    let those = next.of[i];
-    next.of[i] = those.with(k);
-    next
-}
-
-// For each tuple the events of one kind that used it.
-fn users_of(deed: u8, deeds: [u8; Key::COUNT], n: Net) -> Users
-    ensures { λ r. ⌜ r ≡ usersOf deed deeds n ⌝ }
-{
-    let mut users = Users {
-        of: [Keys::EMPTY; Key::COUNT],
-    };
+    let mut users = [Keys::EMPTY; Key::COUNT];
     let mut k: u8 = 0;
     while k < 64 {
         let i = k as usize;
         if deeds[i] == deed {
-            let x = n.slots[i];
+            let x = slot_at(net, i);
             let tuple = x.used;
-            users = with_user(users, tuple, Key(k));
+            if tuple.is_key() {
+                let u = tuple.0 as usize;
+                let those = users[u];
+                users[u] = those.with(Key(k));
+            }
         }
         k += 1;
     }
@@ -243,28 +218,31 @@ fn after_read(deed: u8, takes: Keys, tuple: Key) -> Keys
     takes
 }
 
-// For each event the events that depend on it directly.
-pub fn rows_of(deeds: [u8; Key::COUNT], n: Net, events: Keys) -> [Keys; Key::COUNT]
-    ensures { λ r. ⌜ r ≡ rowsOf deeds n events ⌝ }
+// For each event the events that depend on it directly; for a slot that holds no event none.
+pub fn rows_of(deeds: [u8; Key::COUNT], net: &[u8], events: Keys) -> [Keys; Key::COUNT]
+    requires { ⌜ length (now net) ≡ 3600 ⌝ }
+    ensures { λ r. ⌜ r ≡ rowsOf deeds (netOf (now (net .entry))) events ⌝ }
 {
-    let takers = users_of(Action::IN, deeds, n);
-    let readers = users_of(Action::READ, deeds, n);
+    let takers = users_of(Action::IN, deeds, net);
+    let readers = users_of(Action::READ, deeds, net);
     let mut rows = [Keys::EMPTY; Key::COUNT];
     let mut i: usize = 0;
     while i < Key::COUNT {
-        let deed = deeds[i];
-        let x = n.slots[i];
-        let first = x.first;
-        let f = index_of(first);
-        let one = after_key(events, takers.of[f], readers.of[f], first);
-        let second = x.second;
-        let g = index_of(second);
-        let two = after_key(events, takers.of[g], readers.of[g], second);
-        let used = x.used;
-        let u = index_of(used);
-        let three = after_read(deed, takers.of[u], used);
-        let made = one.either(two);
-        rows[i] = made.either(three);
+        let x = slot_at(net, i);
+        if x.kind == Slot::PAST {
+            let deed = deeds[i];
+            let first = x.first;
+            let f = index_of(first);
+            let one = after_key(events, takers[f], readers[f], first);
+            let second = x.second;
+            let g = index_of(second);
+            let two = after_key(events, takers[g], readers[g], second);
+            let used = x.used;
+            let u = index_of(used);
+            let three = after_read(deed, takers[u], used);
+            let made = one.either(two);
+            rows[i] = made.either(three);
+        }
         i += 1;
     }
     rows

@@ -1,37 +1,16 @@
 // Holds acceptance and single steps against the second program. Standard input is a stream of trials (docs/REFERENCE.md): 'S' a script, 'N' a
 // net, 'P' a change of one byte of the net, 'B' the net as it was given, 'V' whether it is accepted, 'R' a request. Each 'V' and 'R' prints
 // a line: the answer, and of a request also undone, touched, and the check sum of the net's bytes after it.
-use accept::Verdict;
-use accept::accept;
-use images::Form;
-use images::Net;
-use images::Script;
-use images::net_image::read_net;
-use images::net_image::write_net;
-use images::script_image::read_script;
 use libc::STDIN_FILENO;
 use libc::STDOUT_FILENO;
-use requests::Answer;
-use requests::Request;
-use requests::RequestRead;
+use machine::call;
+use machine::image_answer;
+use requests::Told;
 use requests::number;
-use requests::read_request;
-use step::Change;
-use step::apply;
-use step::backward::backward;
-use step::forward::forward;
-use step::refused;
 
 const SCRIPT: usize = 2064;
 
 const NET: usize = 3600;
-
-// What a line says.
-struct Line {
-    answer: u8,
-    undone: u8,
-    touched: u32,
-}
 
 // ---- the check sum of the net: CRC-32, a bit after the other
 
@@ -63,82 +42,6 @@ fn crc(bytes: &[u8]) -> u32 {
     c ^ 4294967295
 }
 
-// ---- what is asked
-
-fn is_accepted(s: Script, n: Net) -> bool {
-    let v = accept(s, n);
-    match v {
-        Verdict::Accepted => true,
-        _ => false,
-    }
-}
-
-// The answer of the images by themselves: 1, 2, or 0 where they are good.
-fn verdict(script: &[u8], net: &[u8]) -> u8 {
-    let s = read_script(script);
-    let form = s.form;
-    let Form::Good = form else {
-        return 1;
-    };
-    let n = read_net(net);
-    let net_form = n.form;
-    let Form::Good = net_form else {
-        return 2;
-    };
-    let the_script = s.script;
-    let the_net = n.net;
-    if is_accepted(the_script, the_net) {
-        return 0;
-    }
-    2
-}
-
-fn change_of(s: Script, n: Net, r: Request) -> Change {
-    if r.code == Request::FORWARD {
-        return forward(s, n, r);
-    }
-    if r.code == Request::BACKWARD {
-        return backward(s, n, r);
-    }
-    let present = n.present;
-    refused(present, Answer::BadRequest)
-}
-
-fn line_of(answer: u8) -> Line {
-    Line {
-        answer,
-        undone: 0,
-        touched: 0,
-    }
-}
-
-// A request on images that are good: the net is written where the step is done.
-fn answer(script: &[u8], net: &mut [u8], request: &[u8]) -> Line {
-    let good = verdict(script, net);
-    if good != 0 {
-        return line_of(good);
-    }
-    let asked = read_request(request);
-    let RequestRead::Request(r) = asked else {
-        return line_of(3);
-    };
-    let s = read_script(script);
-    let n = read_net(net);
-    let the_script = s.script;
-    let the_net = n.net;
-    let c = change_of(the_script, the_net, r);
-    let after = apply(the_net, c);
-    write_net(after, net);
-    let said = c.answer;
-    let touched = c.touched;
-    let no = number(said);
-    Line {
-        answer: no,
-        undone: c.undone,
-        touched: touched.0,
-    }
-}
-
 // ---- lines
 
 fn print_verdict(answer: u8) {
@@ -147,13 +50,15 @@ fn print_verdict(answer: u8) {
     io::write_all(STDOUT_FILENO, b"\n");
 }
 
-fn print_line(l: Line, sum: u32) {
+fn print_told(t: Told, sum: u32) {
+    let answer = t.answer;
+    let touched = t.touched;
     io::write_all(STDOUT_FILENO, b"R ");
-    io::print_decimal(STDOUT_FILENO, l.answer as u64);
+    io::print_decimal(STDOUT_FILENO, number(answer) as u64);
     io::write_all(STDOUT_FILENO, b" ");
-    io::print_decimal(STDOUT_FILENO, l.undone as u64);
+    io::print_decimal(STDOUT_FILENO, t.undone as u64);
     io::write_all(STDOUT_FILENO, b" ");
-    io::print_hex(STDOUT_FILENO, l.touched as u64, 8);
+    io::print_hex(STDOUT_FILENO, touched.0 as u64, 8);
     io::write_all(STDOUT_FILENO, b" ");
     io::print_hex(STDOUT_FILENO, sum as u64, 8);
     io::write_all(STDOUT_FILENO, b"\n");
@@ -193,9 +98,9 @@ fn ask(script: &[u8], net: &mut [u8]) {
     if io::read_full(STDIN_FILENO, request) < 6 {
         return;
     }
-    let l = answer(script, net, request);
+    let t = call(script, net, request);
     let sum = crc(net);
-    print_line(l, sum);
+    print_told(t, sum);
 }
 
 // One trial; whether there may be more.
@@ -217,8 +122,8 @@ fn trial(what: u8, script: &mut [u8], net: &mut [u8], base: &mut [u8]) -> bool {
         return true;
     }
     if what == b'V' {
-        let v = verdict(script, net);
-        print_verdict(v);
+        let answer = image_answer(script, net);
+        print_verdict(number(answer));
         return true;
     }
     if what == b'R' {

@@ -1,7 +1,6 @@
 -- `rule_applies` meets its contract. Assumes nothing.
-use mathlib.Core.Path.{_∙_, sym, ap}
+use mathlib.Core.Path.{_∙_, sym, ap₂}
 use borrow.Author.Tests.{not-true, not-false}
-use Rattle.names.specs.declared.Locality.{Locality}
 use Rattle.agreement.specs.Agreement.{ruledBy}
 use Rattle.products.specs.Products.{targetThere, ready-true, unset-false}
 use borrow.Author.Needs.{needs}
@@ -10,12 +9,14 @@ use Rattle.agreement.proofs.rule_applies.Tie as tie
 use Rattle.agreement.proofs.rule_applies.Reads as reads
 use Rattle.agreement.proofs.rule_applies.Lts as lts
 use Rattle.agreement.proofs.places_right.Reads as places-right-reads
-use Rattle.products.proofs.target_there.Reads as target-there-reads
 use Rattle.agreement.proofs.tuple_fits.Reads as tuple-fits-reads
+use Rattle.images.proofs.net_image.present_in.Reads as present-in-reads
+use Rattle.images.proofs.net_image.slot_in.Reads as slot-in-reads
 use Rattle.products.proofs.evaluable.Reads as evaluable-reads
 use Rattle.products.proofs.is_step.Reads as is-step-reads
 use Rattle.products.proofs.meets_tuple.Reads as meets-tuple-reads
 use Rattle.products.proofs.target_of.Reads as target-of-reads
+use Rattle.products.proofs.target_there.Reads as target-there-reads
 
 is-step-requires : tie.Need-is-step-requires
 is-step-requires c κs = search needs
@@ -47,26 +48,32 @@ returns-3 c = rw (sym (c .before .before .before .before .before .before .before
 target-of-requires : tie.Need-target-of-requires
 target-of-requires c κs = search needs
 
+present-in-requires : tie.Need-present-in-requires
+present-in-requires c κs = search needs
+
 target-there-requires : tie.Need-target-there-requires
 target-there-requires c κs = search needs
 
 returns-4 : tie.Need-returns-4
 unfolding ruledBy
-returns-4 c = rw (sym (c .before .before .before .before .before .before .before .before .before .before .is-step .ensures) ∙ not-false _ (c .before .before .before .before .before .before .before .before .before .if1 .left), sym (c .before .before .before .before .before .before .before .before .places-right .ensures) ∙ not-false _ (c .before .before .before .before .before .before .before .if2 .left), ready-true _ _ (sym (c .before .before .before .before .before .evaluable .ensures) ∙ c .before .before .before .enum-told .given .1), ap (λ (l : Locality). targetThere (c .before .before .before .before .before .before .before .before .before .before .before .args .a .kind) (c .before .before .before .before .before .before .before .before .before .before .before .args .present) l) (sym (c .before .before .target-of .ensures)) ∙ sym (c .before .target-there .ensures) ∙ not-true _ (c .if3 .taken))
+returns-4 c = rw (sym (c .before .before .before .before .before .before .before .before .before .before .before .is-step .ensures) ∙ not-false _ (c .before .before .before .before .before .before .before .before .before .before .if1 .left), sym (c .before .before .before .before .before .before .before .before .before .places-right .ensures) ∙ not-false _ (c .before .before .before .before .before .before .before .before .if2 .left), ready-true _ _ (sym (c .before .before .before .before .before .before .evaluable .ensures) ∙ c .before .before .before .before .enum-told .given .1), ap₂ (targetThere (c .before .before .before .before .before .before .before .before .before .before .before .before .before .args .a .kind)) (sym (c .before .before .present-in .ensures)) (sym (c .before .before .before .target-of .ensures)) ∙ sym (c .before .target-there .ensures) ∙ not-true _ (c .if3 .taken))
 
 meets-tuple-requires : tie.Need-meets-tuple-requires
 meets-tuple-requires c κs = search needs
 
 returns-5 : tie.Need-returns-5
 unfolding ruledBy
-returns-5 c = rw (sym (c .before .before .before .before .before .before .before .before .before .before .before .before .is-step .ensures) ∙ not-false _ (c .before .before .before .before .before .before .before .before .before .before .before .if1 .left), sym (c .before .before .before .before .before .before .before .before .before .before .places-right .ensures) ∙ not-false _ (c .before .before .before .before .before .before .before .before .before .if2 .left), ready-true _ _ (sym (c .before .before .before .before .before .before .before .evaluable .ensures) ∙ c .before .before .before .before .before .enum-told .given .1), ap (λ (l : Locality). targetThere (c .before .before .before .before .before .before .before .before .before .before .before .before .before .args .a .kind) (c .before .before .before .before .before .before .before .before .before .before .before .before .before .args .present) l) (sym (c .before .before .before .before .target-of .ensures)) ∙ sym (c .before .before .before .target-there .ensures) ∙ not-false _ (c .before .before .if3 .left), sym (c .before .meets-tuple .ensures) ∙ not-true _ (c .if4 .taken))
+returns-5 c = rw (sym (c .before .before .before .before .before .before .before .before .before .before .before .before .before .is-step .ensures) ∙ not-false _ (c .before .before .before .before .before .before .before .before .before .before .before .before .if1 .left), sym (c .before .before .before .before .before .before .before .before .before .before .before .places-right .ensures) ∙ not-false _ (c .before .before .before .before .before .before .before .before .before .before .if2 .left), ready-true _ _ (sym (c .before .before .before .before .before .before .before .before .evaluable .ensures) ∙ c .before .before .before .before .before .before .enum-told .given .1), ap₂ (targetThere (c .before .before .before .before .before .before .before .before .before .before .before .before .before .before .before .args .a .kind)) (sym (c .before .before .before .before .present-in .ensures)) (sym (c .before .before .before .before .before .target-of .ensures)) ∙ sym (c .before .before .before .target-there .ensures) ∙ not-false _ (c .before .before .if3 .left), sym (c .before .meets-tuple .ensures) ∙ not-true _ (c .if4 .taken))
+
+slot-in-requires : tie.Need-slot-in-requires
+slot-in-requires c κs = search needs
 
 tuple-fits-requires : tie.Need-tuple-fits-requires
 tuple-fits-requires c κs = search needs
 
 returns-6 : tie.Need-returns-6
 unfolding ruledBy
-returns-6 c = rw (sym (c .before .before .before .before .before .before .before .before .before .before .before .before .before .is-step .ensures) ∙ not-false _ (c .before .before .before .before .before .before .before .before .before .before .before .before .if1 .left), sym (c .before .before .before .before .before .before .before .before .before .before .before .places-right .ensures) ∙ not-false _ (c .before .before .before .before .before .before .before .before .before .before .if2 .left), ready-true _ _ (sym (c .before .before .before .before .before .before .before .before .evaluable .ensures) ∙ c .before .before .before .before .before .before .enum-told .given .1), ap (λ (l : Locality). targetThere (c .before .before .before .before .before .before .before .before .before .before .before .before .before .before .args .a .kind) (c .before .before .before .before .before .before .before .before .before .before .before .before .before .before .args .present) l) (sym (c .before .before .before .before .before .target-of .ensures)) ∙ sym (c .before .before .before .before .target-there .ensures) ∙ not-false _ (c .before .before .before .if3 .left), sym (c .before .before .meets-tuple .ensures) ∙ not-false _ (c .before .if4 .left), c .tuple-fits .ensures, c .before .before .before .before .before .target-of .ensures)
+returns-6 c = rw (sym (c .before .before .before .before .before .before .before .before .before .before .before .before .before .before .before .before .is-step .ensures) ∙ not-false _ (c .before .before .before .before .before .before .before .before .before .before .before .before .before .before .before .if1 .left), sym (c .before .before .before .before .before .before .before .before .before .before .before .before .before .before .places-right .ensures) ∙ not-false _ (c .before .before .before .before .before .before .before .before .before .before .before .before .before .if2 .left), ready-true _ _ (sym (c .before .before .before .before .before .before .before .before .before .before .before .evaluable .ensures) ∙ c .before .before .before .before .before .before .before .before .before .enum-told .given .1), ap₂ (targetThere (c .before .before .before .before .before .before .before .before .before .before .before .before .before .before .before .before .before .before .args .a .kind)) (sym (c .before .before .before .before .before .before .before .present-in .ensures)) (sym (c .before .before .before .before .before .before .before .before .target-of .ensures)) ∙ sym (c .before .before .before .before .before .before .target-there .ensures) ∙ not-false _ (c .before .before .before .before .before .if3 .left), sym (c .before .before .before .before .meets-tuple .ensures) ∙ not-false _ (c .before .before .before .if4 .left), c .tuple-fits .ensures, c .before .before .before .before .before .before .before .before .target-of .ensures, c .before .slot-in .ensures)
 
 pub rule-applies-spec : {M : Type 1} → statement M
 rule-applies-spec =
@@ -81,9 +88,11 @@ rule-applies-spec =
     enum-told-2
     returns-3
     target-of-requires
+    present-in-requires
     target-there-requires
     returns-4
     meets-tuple-requires
     returns-5
+    slot-in-requires
     tuple-fits-requires
     returns-6)

@@ -1,125 +1,110 @@
--- `has_no_cycle` meets its contract. The outer loop's invariant: what is left was left by taking last ones, at least one a turn; the inner
--- one's: what is to come of a pass leaves what the whole pass leaves. Assumes nothing.
-use mathlib.Core.Path.{_∙_, sym}
+-- `has_no_cycle` meets its contract. The loop's invariant: what is left was left by taking last ones. Assumes nothing.
+use mathlib.Core.Path.{_∙_, sym, subst}
+use mathlib.Core.Logic.{⊎-elim}
 use Prim.Native.Nat.{_-_, _≤_}
-use native.Mathlib.Omega.{arith}
-use borrow.Author.Tests.{not-true, not-false}
 use borrow.Author.Needs.{needs}
-use Rattle.cycles.specs.Highest.{without-less}
-use Rattle.cycles.specs.Laws.{Passing, passing-first, passing-left, passing-next, passing-done}
-use Rattle.cycles.specs.Laws.{Kept, kept-first, kept-next, kept-empty, kept-stuck, kept-last}
+use Rattle.cycles.specs.Following.{Peeled, peeled-first, peeled-next, peeled-empty, peeled-same}
 use Rattle.cycles.proofs.has_no_cycle.Statement.{statement}
 use Rattle.cycles.proofs.has_no_cycle.Tie as tie
 
-abbrev Inv-loop2 : tie.InvT-loop2
-Inv-loop2 rows left turn rest₀ to-come₀ rest to-come = Passing rows left rest to-come
-
-abbrev μ-loop2 : tie.MeasureT-loop2
-μ-loop2 rows left turn rest₀ to-come₀ rest to-come = to-come .0
-
 abbrev Inv-loop : tie.InvT-loop
-Inv-loop rows left₀ turn₀ left turn = (turn ≤ 64) × Kept rows left₀ turn left
+Inv-loop rows left₀ at₀ from₀ looks₀ left at from looks = (looks ≤ 128) × Peeled rows left₀ left
 
 abbrev μ-loop : tie.MeasureT-loop
-μ-loop rows left₀ turn₀ left turn = 64 - turn
+μ-loop rows left₀ at₀ from₀ looks₀ left at from looks = 128 - looks
 
-loop-holds : tie.Need-loop-holds Inv-loop2 μ-loop2 Inv-loop μ-loop
-loop-holds c = (search needs, kept-first _ _ (search needs))
+loop-holds : tie.Need-loop-holds Inv-loop μ-loop
+loop-holds c = (search needs, peeled-first (c .args .t1) (c .args .keys))
 
-is-empty-requires : tie.Need-is-empty-requires Inv-loop2 μ-loop2 Inv-loop μ-loop
+is-empty-requires : tie.Need-is-empty-requires Inv-loop μ-loop
 is-empty-requires c κs = search needs
 
-returns : tie.Need-returns Inv-loop2 μ-loop2 Inv-loop μ-loop
-returns c = sym (kept-empty _ _ _ _ (c .before .before .before .loop .inv .1) (sym (c .before .is-empty .ensures) ∙ c .if1 .taken))
+returns : tie.Need-returns Inv-loop μ-loop
+returns c = sym (peeled-empty (c .before .before .before .before .args .t1) (c .before .before .before .before .args .keys) _ (c .before .before .before .loop .inv .1) (sym (c .before .is-empty .ensures) ∙ c .if1 .taken))
 
-loop2-holds : tie.Need-loop2-holds Inv-loop2 μ-loop2 Inv-loop μ-loop
-loop2-holds c = passing-first _ _
+look-at-requires : tie.Need-look-at-requires Inv-loop μ-loop
+look-at-requires c κs = sym (c .before .is-empty .ensures) ∙ c .if1 .left
 
-is-empty-requires-2 : tie.Need-is-empty-requires-2 Inv-loop2 μ-loop2 Inv-loop μ-loop
-is-empty-requires-2 c κs = search needs
-
-highest-requires : tie.Need-highest-requires Inv-loop2 μ-loop2 Inv-loop μ-loop
-highest-requires c κs = sym (c .before .is-empty2 .ensures) ∙ not-true _ (c .if2 .taken)
-
-cast-row : tie.Need-cast-row Inv-loop2 μ-loop2 Inv-loop μ-loop
+cast-row : tie.Need-cast-row Inv-loop μ-loop
 cast-row c = search needs
 
-mul-row : tie.Need-mul-row Inv-loop2 μ-loop2 Inv-loop μ-loop
+mul-row : tie.Need-mul-row Inv-loop μ-loop
 mul-row c = search needs
 
-array-copy-out-row : tie.Need-array-copy-out-row Inv-loop2 μ-loop2 Inv-loop μ-loop
-array-copy-out-row c = c .before .highest .ensures .below
+array-copy-out-row : tie.Need-array-copy-out-row Inv-loop μ-loop
+array-copy-out-row c = c .before .look-at .ensures .0
 
-take-last-requires : tie.Need-take-last-requires Inv-loop2 μ-loop2 Inv-loop μ-loop
-take-last-requires c κs =
-    let h = c .before .before .highest .ensures in
-    (h .below, passing-left _ _ _ _ (c .before .before .before .before .before .loop2 .inv) _ h)
+both-requires : tie.Need-both-requires Inv-loop μ-loop
+both-requires c κs = search needs
 
-without-requires : tie.Need-without-requires Inv-loop2 μ-loop2 Inv-loop μ-loop
-without-requires c κs = c .before .before .before .highest .ensures .below
+is-empty-requires-2 : tie.Need-is-empty-requires-2 Inv-loop μ-loop
+is-empty-requires-2 c κs = search needs
 
-loop2-less : tie.Need-loop2-less Inv-loop2 μ-loop2 Inv-loop μ-loop
-loop2-less c = without-less _ _ _ (c .before .before .before .before .highest .ensures) (c .without .ensures)
+without-requires : tie.Need-without-requires Inv-loop μ-loop
+without-requires c κs = c .before .before .before .before .before .look-at .ensures .0
 
-loop2-again : tie.Need-loop2-again Inv-loop2 μ-loop2 Inv-loop μ-loop
-loop2-again c =
-    let w = c .before .before .before .before .before .before .before .loop2 .inv in
-    passing-next _ _ _ _ w _ (c .before .before .before .before .highest .ensures) _ _ (c .before .take-last .ensures) (c .without .ensures)
+cast-at : tie.Need-cast-at Inv-loop μ-loop
+cast-at c = search needs
 
-returns-2 : tie.Need-returns-2 Inv-loop2 μ-loop2 Inv-loop μ-loop
-returns-2 c =
-    let p = c .before .before .before .before .before .loop2 in
-    let done = passing-done _ _ _ _ (p .inv) (sym (c .before .before .before .before .is-empty2 .ensures) ∙ not-false _ (c .before .before .before .if2 .left)) in
-    let w = c .before .before .before .before .before .before .before .before .before .loop .inv .1 in
-    let some = sym (c .before .before .before .before .before .before .before .is-empty .ensures) ∙ c .before .before .before .before .before .before .if1 .left in
-    sym (kept-stuck _ _ _ _ (p .rest) w some done (c .if3 .taken))
+array-copy-out-at : tie.Need-array-copy-out-at Inv-loop μ-loop
+array-copy-out-at c = c .before .before .before .before .before .before .before .look-at .ensures .0
 
-add-turn : tie.Need-add-turn Inv-loop2 μ-loop2 Inv-loop μ-loop
-add-turn c = search needs
+highest-requires : tie.Need-highest-requires Inv-loop μ-loop
+highest-requires c κs = sym (c .before .is-empty2 .ensures) ∙ c .if2 .left
 
-loop-less : tie.Need-loop-less Inv-loop2 μ-loop2 Inv-loop μ-loop
+cast-from : tie.Need-cast-from Inv-loop μ-loop
+cast-from c = search needs
+
+array-set-from-from : tie.Need-array-set-from-from Inv-loop μ-loop
+array-set-from-from c = c .before .highest .ensures .below
+
+add-looks : tie.Need-add-looks Inv-loop μ-loop
+add-looks c = search needs
+
+loop-less : tie.Need-loop-less Inv-loop μ-loop
 loop-less c = search needs
 
-loop-again : tie.Need-loop-again Inv-loop2 μ-loop2 Inv-loop μ-loop
+loop-again : tie.Need-loop-again Inv-loop μ-loop
 loop-again c =
-    let p = c .before .before .before .before .before .loop2 in
-    let done = passing-done _ _ _ _ (p .inv) (sym (c .before .before .before .before .is-empty2 .ensures) ∙ not-false _ (c .before .before .before .if2 .left)) in
-    let w = c .before .before .before .before .before .before .before .before .before .loop .inv .1 in
-    (search needs, kept-next _ _ _ _ (p .rest) w done (c .if3 .left))
+    let l = c .before .before .before .before .before .before .before .before .before .loop in
+    let k = c .before .before .before .before .before .look-at .ensures in
+    let rows = c .before .before .before .before .before .before .before .before .before .before .args .t1 in
+    let s = c .before .before .before .before .before .before .before .before .before .before .args .keys in (
+      search needs,
+      ⊎-elim (λ w. peeled-next rows s (l .left) (l .inv .1) _ _ _ (k .0) (k .1) (c .before .before .both .ensures) (sym (c .before .is-empty2 .ensures) ∙ w .0 .taken) (w .4 ∙ w .1 .ensures))
+          (λ w. subst (Peeled rows s) (sym (w .3)) (l .inv .1))
+          (c .if2 .came),
+    )
 
-is-empty-requires-3 : tie.Need-is-empty-requires-3 Inv-loop2 μ-loop2 Inv-loop μ-loop
-is-empty-requires-3 c κs = search needs
+peels-away-requires : tie.Need-peels-away-requires Inv-loop μ-loop
+peels-away-requires c κs = search needs
 
-returns-3 : tie.Need-returns-3 Inv-loop2 μ-loop2 Inv-loop μ-loop
-returns-3 c =
-    let w = c .before .before .loop .inv .1 in
-    let e = kept-last _ _ _ _ w (omega arith) in
-    c .is-empty3 .ensures ∙ e ∙ sym (kept-empty _ _ _ _ w e)
+returns-2 : tie.Need-returns-2 Inv-loop μ-loop
+returns-2 c = c .peels-away .ensures ∙ peeled-same (c .before .before .before .args .t1) (c .before .before .before .args .keys) _ (c .before .before .loop .inv .1)
 
 pub has-no-cycle-spec : {M : Type 1} → statement M
 has-no-cycle-spec =
     tie.close
     (tie.spec
-    Inv-loop2
-    μ-loop2
     Inv-loop
     μ-loop
     loop-holds
     is-empty-requires
     returns
-    loop2-holds
-    is-empty-requires-2
-    highest-requires
+    look-at-requires
     cast-row
     mul-row
     array-copy-out-row
-    take-last-requires
+    both-requires
+    is-empty-requires-2
     without-requires
-    loop2-less
-    loop2-again
-    returns-2
-    add-turn
+    cast-at
+    array-copy-out-at
+    highest-requires
+    cast-from
+    array-set-from-from
+    add-looks
     loop-less
     loop-again
-    is-empty-requires-3
-    returns-3)
+    peels-away-requires
+    returns-2)

@@ -2,19 +2,19 @@
 use mathlib.Core.Path.{_≡_, sym, _∙_}
 use denote.Ref.{now}
 use Rattle.step.specs.Tests.{holds-true, fails-false}
-use Rattle.machine.specs.Called.{call-refused, call-good, call-done}
+use Rattle.machine.specs.Called.{call-refused, answer-good}
 use borrow.Author.Needs.{needs}
 use Rattle.machine.proofs.call.Statement.{statement}
 use Rattle.machine.proofs.call.Tie as tie
 use Rattle.machine.proofs.call.Reads as reads
 use Rattle.machine.proofs.call.Lts as lts
 use Rattle.machine.proofs.call_on.Reads as call-on-reads
-use Rattle.machine.proofs.refused.Reads as refused-reads
-use Rattle.machine.proofs.take_apart.Reads as take-apart-reads
+use Rattle.machine.proofs.image_answer.Reads as image-answer-reads
+use Rattle.requests.proofs.refused.Reads as refused-reads
 use Rattle.step.proofs.checks.all_hold.Reads as all-hold-reads
 
-take-apart-requires : tie.Need-take-apart-requires
-take-apart-requires c κs = search needs
+image-answer-requires : tie.Need-image-answer-requires
+image-answer-requires c κs = search needs
 
 all-hold-requires : tie.Need-all-hold-requires
 all-hold-requires c κs = search needs
@@ -32,22 +32,22 @@ same-length : tie.Need-same-length
 same-length c = search needs
 
 returns : tie.Need-returns
-returns c = call-refused (now (c .before .before .before .before .before .before .before .before .before .args .script)) (now (c .before .before .before .before .before .before .before .before .before .args .net)) (now (c .before .before .before .before .before .before .before .before .before .args .request)) _ (c .before .before .before .before .take-apart .ensures) (fails-false _ (sym (c .before .before .before .all-hold .ensures) ∙ c .before .enum-told2 .given .1)) _ (c .refused .ensures)
+returns c = call-refused (now (c .before .before .before .before .before .before .before .before .before .args .script)) (now (c .before .before .before .before .before .before .before .before .before .args .net)) _ (c .before .before .before .before .image-answer .ensures) (now (c .before .before .before .before .before .before .before .before .before .args .request)) (fails-false _ (sym (c .before .before .before .all-hold .ensures) ∙ c .before .enum-told2 .given .1)) _ (c .refused .ensures)
 
 call-on-requires : tie.Need-call-on-requires
-call-on-requires c κs = call-good (now (c .before .before .before .before .before .before .before .before .before .before .before .args .script)) (now (c .before .before .before .before .before .before .before .before .before .before .before .args .net)) (now (c .before .before .before .before .before .before .before .before .before .before .before .args .request)) _ (c .before .before .before .before .before .before .take-apart .ensures) (holds-true _ (sym (c .before .before .before .before .before .all-hold .ensures) ∙ c .before .before .before .enum-told .given .1))
+call-on-requires c κs = answer-good (now (c .before .before .before .before .before .before .before .before .before .args .script)) (now (c .before .before .before .before .before .before .before .before .before .args .net)) _ (c .before .before .before .before .image-answer .ensures) (holds-true _ (sym (c .before .before .before .all-hold .ensures) ∙ c .before .enum-told .given .1))
 
 same-length-2 : tie.Need-same-length-2
 same-length-2 c = search needs
 
 returns-2 : tie.Need-returns-2
-returns-2 c = call-done (now (c .before .before .before .before .before .before .before .before .before .before .before .before .before .before .args .script)) (now (c .before .before .before .before .before .before .before .before .before .before .before .before .before .before .args .net)) (now (c .before .before .before .before .before .before .before .before .before .before .before .before .before .before .args .request)) _ (c .before .before .before .before .before .before .before .before .before .take-apart .ensures) (holds-true _ (sym (c .before .before .before .before .before .before .before .before .all-hold .ensures) ∙ c .before .before .before .before .before .before .enum-told .given .1)) _ _ (c .before .before .call-on .ensures)
+returns-2 c = search needs
 
 pub call-spec : {M : Type 1} → statement M
 call-spec =
     tie.close
     (tie.spec
-    take-apart-requires
+    image-answer-requires
     all-hold-requires
     enum-told
     enum-told-2

@@ -1,15 +1,15 @@
 -- `call_on` meets its contract. Assumes nothing.
 use mathlib.Core.Path.{_≡_, sym, _∙_}
 use denote.Ref.{now}
-use Rattle.machine.specs.Called.{read-in-range, request-bad, request-good}
+use Rattle.machine.specs.Calls.{scriptIn, netIn}
+use Rattle.machine.specs.Called.{read-in-range, request-bad, request-good, good-replies}
 use borrow.Author.Needs.{needs}
 use Rattle.machine.proofs.call_on.Statement.{statement}
 use Rattle.machine.proofs.call_on.Tie as tie
 use Rattle.machine.proofs.call_on.Reads as reads
 use Rattle.machine.proofs.call_on.Lts as lts
-use Rattle.machine.proofs.refused.Reads as refused-reads
+use Rattle.requests.proofs.refused.Reads as refused-reads
 use Rattle.machine.proofs.serve.Reads as serve-reads
-use Rattle.machine.proofs.tell.Reads as tell-reads
 use Rattle.requests.proofs.read_request.Reads as read-request-reads
 
 read-request-requires : tie.Need-read-request-requires
@@ -25,19 +25,16 @@ refused-requires : tie.Need-refused-requires
 refused-requires c κs = search needs
 
 returns : tie.Need-returns
-returns c = request-bad (c .before .before .before .before .before .before .args .s) (c .before .before .before .before .before .before .args .n) (now (c .before .before .before .before .before .before .args .net)) (now (c .before .before .before .before .before .before .args .request)) (sym (c .before .enum-told .given .1) ∙ c .before .before .before .read-request .ensures) _ (c .refused .ensures)
+returns c = good-replies (now (c .before .before .before .before .before .before .before .args .script)) (now (c .before .before .before .before .before .before .before .args .net)) (now (c .before .before .before .before .before .before .before .args .request)) (c .before .before .before .before .before .before .before .pre) _ _ (request-bad (scriptIn (now (c .before .before .before .before .before .before .before .args .script))) (netIn (now (c .before .before .before .before .before .before .before .args .net))) (now (c .before .before .before .before .before .before .before .args .net)) (now (c .before .before .before .before .before .before .before .args .request)) (sym (c .before .enum-told .given .1) ∙ c .before .before .before .read-request .ensures) _ (c .refused .ensures))
 
 serve-requires : tie.Need-serve-requires
-serve-requires c κs = (c .before .before .before .before .before .before .pre, read-in-range (now (c .before .before .before .before .before .before .args .request)) _ (sym (c .before .asked .given .1) ∙ c .before .before .before .read-request .ensures))
-
-tell-requires : tie.Need-tell-requires
-tell-requires c κs = search needs
+serve-requires c κs = (c .before .before .before .before .before .before .before .before .pre, read-in-range (now (c .before .before .before .before .before .before .before .before .args .request)) _ (sym (c .before .before .asked .given .1) ∙ c .before .before .before .before .read-request .ensures))
 
 same-length : tie.Need-same-length
 same-length c = search needs
 
 returns-2 : tie.Need-returns-2
-returns-2 c = request-good (c .before .before .before .before .before .before .before .before .before .before .before .args .s) (c .before .before .before .before .before .before .before .before .before .before .before .args .n) (now (c .before .before .before .before .before .before .before .before .before .before .before .args .net)) (now (c .before .before .before .before .before .before .before .before .before .before .before .args .request)) _ (sym (c .before .before .before .before .before .before .asked .given .1) ∙ c .before .before .before .before .before .before .before .before .read-request .ensures) _ (c .before .before .before .before .serve .ensures) _ (c .before .before .tell .ensures .0) _ (c .before .before .tell .ensures .1)
+returns-2 c = good-replies (now (c .before .before .before .before .before .before .before .before .before .before .before .args .script)) (now (c .before .before .before .before .before .before .before .before .before .before .before .args .net)) (now (c .before .before .before .before .before .before .before .before .before .before .before .args .request)) (c .before .before .before .before .before .before .before .before .before .before .before .pre) _ _ (request-good (scriptIn (now (c .before .before .before .before .before .before .before .before .before .before .before .args .script))) (netIn (now (c .before .before .before .before .before .before .before .before .before .before .before .args .net))) (now (c .before .before .before .before .before .before .before .before .before .before .before .args .net)) (now (c .before .before .before .before .before .before .before .before .before .before .before .args .request)) _ (sym (c .before .before .before .before .before .asked .given .1) ∙ c .before .before .before .before .before .before .before .read-request .ensures) _ _ (c .before .before .serve .ensures))
 
 pub call-on-spec : {M : Type 1} → statement M
 call-on-spec =
@@ -49,6 +46,5 @@ call-on-spec =
     refused-requires
     returns
     serve-requires
-    tell-requires
     same-length
     returns-2)

@@ -1,60 +1,51 @@
 -- `image_answer` meets its contract. Assumes nothing.
-use mathlib.Core.Path.{_≡_, refl, sym, ap, _∙_}
+use mathlib.Core.Path.{_≡_, sym, _∙_}
+use mathlib.Core.Bool.{true, false}
+use denote.Ref.{now}
 use borrow.Author.Tests.{not-true, not-false}
-use Rattle.machine.specs.Calls.{isGood}
-use Rattle.images.proofs.Owned.{shaped-net}
-use Rattle.machine.specs.Called.{accepts, answerBy, accepts-tested}
+use Rattle.images.specs.Round.{shaped-net}
+use Rattle.machine.specs.Called.{image-no-script, image-no-net, image-sizes, image-by}
 use borrow.Author.Needs.{needs}
 use Rattle.machine.proofs.image_answer.Statement.{statement}
 use Rattle.machine.proofs.image_answer.Tie as tie
 use Rattle.machine.proofs.image_answer.Reads as reads
 use Rattle.machine.proofs.image_answer.Lts as lts
 use Rattle.accept.proofs.accept.Reads as accept-reads
+use Rattle.images.proofs.net_image.net_formed.Reads as net-formed-reads
+use Rattle.images.proofs.script_image.script_formed.Reads as script-formed-reads
 use Rattle.machine.proofs.is_accepted.Reads as is-accepted-reads
 
-enum-told : tie.Need-enum-told
-enum-told c = search needs
-
-enum-told-2 : tie.Need-enum-told-2
-enum-told-2 c = search needs
+script-formed-requires : tie.Need-script-formed-requires
+script-formed-requires c κs = search needs
 
 returns : tie.Need-returns
-unfolding answerBy
-returns c = rw (ap isGood (c .enum-told2 .given .1)) refl
+returns c = image-no-script (now (c .before .before .before .before .args .script)) (now (c .before .before .before .before .args .net)) (sym (c .before .script-formed .ensures) ∙ not-true _ (c .if1 .taken))
 
-enum-told-3 : tie.Need-enum-told-3
-enum-told-3 c = search needs
-
-enum-told-4 : tie.Need-enum-told-4
-enum-told-4 c = search needs
+net-formed-requires : tie.Need-net-formed-requires
+net-formed-requires c κs = search needs
 
 returns-2 : tie.Need-returns-2
-unfolding answerBy
-returns-2 c = rw (ap isGood (c .before .before .enum-told .given .1), ap isGood (c .enum-told4 .given .1)) refl
+returns-2 c = image-no-net (now (c .before .before .before .before .before .before .args .script)) (now (c .before .before .before .before .before .before .args .net)) (sym (c .before .before .before .script-formed .ensures) ∙ not-false _ (c .before .before .if1 .left)) (sym (c .before .net-formed .ensures) ∙ not-true _ (c .if2 .taken))
 
 accept-requires : tie.Need-accept-requires
-accept-requires c κs = search needs
+accept-requires c κs = image-sizes (now (c .before .before .before .before .before .before .args .script)) (now (c .before .before .before .before .before .before .args .net)) (sym (c .before .before .before .script-formed .ensures) ∙ not-false _ (c .before .before .if1 .left)) (sym (c .before .net-formed .ensures) ∙ not-false _ (c .if2 .left))
 
 is-accepted-requires : tie.Need-is-accepted-requires
 is-accepted-requires c κs = search needs
 
 returns-3 : tie.Need-returns-3
-unfolding answerBy
-returns-3 c = rw (ap isGood (c .before .before .before .before .before .enum-told .given .1), ap isGood (c .before .before .before .enum-told3 .given .1), sym (c .before .is-accepted .ensures ∙ ap accepts (c .before .before .accept .ensures) ∙ accepts-tested (c .before .before .before .before .before .before .before .args .s) (c .before .before .before .before .before .before .before .args .n) (shaped-net _ _ (c .before .before .before .before .before .before .before .good .1 .1 .1 .0)) (c .before .before .before .before .before .before .before .pre (ap isGood (c .before .before .before .enum-told3 .given .1)))) ∙ not-true _ (c .if1 .taken)) refl
+returns-3 c = image-by (now (c .before .before .before .before .before .before .before .before .before .args .script)) (now (c .before .before .before .before .before .before .before .before .before .args .net)) (sym (c .before .before .before .before .before .before .script-formed .ensures) ∙ not-false _ (c .before .before .before .before .before .if1 .left)) (sym (c .before .before .before .before .net-formed .ensures) ∙ not-false _ (c .before .before .before .if2 .left)) (shaped-net (now (c .before .before .before .before .before .before .before .before .before .args .net)) (λ i. c .before .before .before .before .before .before .before .shared-slice-known2 .given i .fits)) _ (c .before .before .accept .ensures) false (sym (not-true _ (c .if3 .taken)) ∙ c .before .is-accepted .ensures)
 
 returns-4 : tie.Need-returns-4
-unfolding answerBy
-returns-4 c = rw (ap isGood (c .before .before .before .before .before .enum-told .given .1), ap isGood (c .before .before .before .enum-told3 .given .1), sym (c .before .is-accepted .ensures ∙ ap accepts (c .before .before .accept .ensures) ∙ accepts-tested (c .before .before .before .before .before .before .before .args .s) (c .before .before .before .before .before .before .before .args .n) (shaped-net _ _ (c .before .before .before .before .before .before .before .good .1 .1 .1 .0)) (c .before .before .before .before .before .before .before .pre (ap isGood (c .before .before .before .enum-told3 .given .1)))) ∙ not-false _ (c .if1 .left)) refl
+returns-4 c = image-by (now (c .before .before .before .before .before .before .before .before .before .args .script)) (now (c .before .before .before .before .before .before .before .before .before .args .net)) (sym (c .before .before .before .before .before .before .script-formed .ensures) ∙ not-false _ (c .before .before .before .before .before .if1 .left)) (sym (c .before .before .before .before .net-formed .ensures) ∙ not-false _ (c .before .before .before .if2 .left)) (shaped-net (now (c .before .before .before .before .before .before .before .before .before .args .net)) (λ i. c .before .before .before .before .before .before .before .shared-slice-known2 .given i .fits)) _ (c .before .before .accept .ensures) true (sym (not-false _ (c .if3 .left)) ∙ c .before .is-accepted .ensures)
 
 pub image-answer-spec : {M : Type 1} → statement M
 image-answer-spec =
     tie.close
     (tie.spec
-    enum-told
-    enum-told-2
+    script-formed-requires
     returns
-    enum-told-3
-    enum-told-4
+    net-formed-requires
     returns-2
     accept-requires
     is-accepted-requires

@@ -1,7 +1,6 @@
 -- `take_apart` meets its contract. Assumes nothing.
-use mathlib.Core.Path.{_≡_, refl}
 use denote.Ref.{now}
-use Rattle.machine.specs.Called.{taken-range, taken-is}
+use Rattle.machine.specs.Called.{taken-is}
 use borrow.Author.Needs.{needs}
 use Rattle.machine.proofs.take_apart.Statement.{statement}
 use Rattle.machine.proofs.take_apart.Tie as tie
@@ -11,18 +10,18 @@ use Rattle.images.proofs.net_image.read_net.Reads as read-net-reads
 use Rattle.images.proofs.script_image.read_script.Reads as read-script-reads
 use Rattle.machine.proofs.image_answer.Reads as image-answer-reads
 
+image-answer-requires : tie.Need-image-answer-requires
+image-answer-requires c κs = search needs
+
 read-script-requires : tie.Need-read-script-requires
 read-script-requires c κs = search needs
 
 read-net-requires : tie.Need-read-net-requires
 read-net-requires c κs = search needs
 
-image-answer-requires : tie.Need-image-answer-requires
-image-answer-requires c κs = taken-range (now (c .before .before .before .before .before .before .args .script)) (now (c .before .before .before .before .before .before .args .net)) _ (c .before .before .before .read-script .ensures) _ (c .before .before .read-net .ensures)
-
 returns : tie.Need-returns
-returns c = taken-is (now (c .before .before .before .before .before .before .before .args .script)) (now (c .before .before .before .before .before .before .before .args .net)) _ (c .before .before .before .before .read-script .ensures) _ (c .before .before .before .read-net .ensures) _ (c .image-answer .ensures) refl refl
+returns c = taken-is (now (c .before .before .before .before .before .before .before .args .script)) (now (c .before .before .before .before .before .before .before .args .net)) _ (c .before .before .before .before .image-answer .ensures) _ (c .before .before .before .read-script .ensures) _ (c .before .before .read-net .ensures)
 
 pub take-apart-spec : {M : Type 1} → statement M
 take-apart-spec =
-    tie.close (tie.spec read-script-requires read-net-requires image-answer-requires returns)
+    tie.close (tie.spec image-answer-requires read-script-requires read-net-requires returns)

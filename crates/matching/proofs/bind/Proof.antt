@@ -1,63 +1,106 @@
--- `bind` meets its contract: the four fields, one after the other. Assumes nothing.
-use Rattle.matching.specs.Match.{bound, bindUpTo}
+-- `bind` meets its contract. The loop's invariant: the fields below `j` are bound. Assumes nothing.
+use mathlib.Core.Path.{_≡_, refl, _∙_, ap, sym}
+use mathlib.Core.List.{List}
+use Prim.Native.Nat.{ℕ, _-_, _≤_}
+use native.Mathlib.Omega.{arith}
+use lib.ListN.{getD, set}
+use borrow.Author.Tests.{not-true, not-false, ltb-true}
+use Rattle.laws.specs.Choice.{and-right}
+use Rattle.images.specs.Script.{field0}
+use Rattle.images.specs.Net.{datum0}
+use Rattle.images.specs.declared.Field.{Field}
+use Rattle.images.specs.declared.Action.{Action}
+use Rattle.matching.specs.Evaluate.{isFormal}
+use Rattle.matching.specs.Match.{binds, bindUpTo, bound, bound-none, bound-one}
 use borrow.Author.Needs.{needs}
 use Rattle.matching.proofs.bind.Statement.{statement}
 use Rattle.matching.proofs.bind.Tie as tie
+use Rattle.matching.proofs.bind.Reads as reads
+use Rattle.matching.proofs.bind.Lts as lts
+use Rattle.matching.proofs.binds.Reads as binds-reads
 
-array-copy-out-bind-one : tie.Need-array-copy-out-bind-one
-array-copy-out-bind-one c = search needs
+abbrev Inv-loop : tie.InvT-loop
+Inv-loop tuple fields next₀ j₀ next j = (j ≤ 4) × ((a : Action) → a .fields ≡ fields → next ≡ bindUpTo j next₀ a tuple)
 
-array-copy-out-bind-one-2 : tie.Need-array-copy-out-bind-one-2
-array-copy-out-bind-one-2 c = search needs
+abbrev μ-loop : tie.MeasureT-loop
+μ-loop tuple fields next₀ j₀ next j = 4 - j
 
-bind-one-requires : tie.Need-bind-one-requires
-bind-one-requires c κs = search needs
+loop-holds : tie.Need-loop-holds Inv-loop μ-loop
+unfolding bindUpTo
+loop-holds c = (search needs, λ a e. refl)
 
-array-copy-out-bind-one-3 : tie.Need-array-copy-out-bind-one-3
-array-copy-out-bind-one-3 c = search needs
+add-j : tie.Need-add-j Inv-loop μ-loop
+add-j c = search needs
 
-array-copy-out-bind-one-4 : tie.Need-array-copy-out-bind-one-4
-array-copy-out-bind-one-4 c = search needs
+mul-f : tie.Need-mul-f Inv-loop μ-loop
+mul-f c = search needs
 
-bind-one-requires-2 : tie.Need-bind-one-requires-2
-bind-one-requires-2 c κs = search needs
+array-copy-out-f : tie.Need-array-copy-out-f Inv-loop μ-loop
+array-copy-out-f c = search needs
 
-array-copy-out-bind-one-5 : tie.Need-array-copy-out-bind-one-5
-array-copy-out-bind-one-5 c = search needs
+binds-requires : tie.Need-binds-requires Inv-loop μ-loop
+binds-requires c κs = search needs
 
-array-copy-out-bind-one-6 : tie.Need-array-copy-out-bind-one-6
-array-copy-out-bind-one-6 c = search needs
+loop-less : tie.Need-loop-less Inv-loop μ-loop
+loop-less c = search needs
 
-bind-one-requires-3 : tie.Need-bind-one-requires-3
-bind-one-requires-3 c κs = search needs
+loop-again : tie.Need-loop-again Inv-loop μ-loop
+loop-again c =
+    (omega (arith, c .before .before .before .loop-test .taken), λ a e. bound-none _ a _ (c .before .before .before .before .loop .j) _ (c .before .before .before .before .loop .inv .1 a e) (ap (λ (xs : List Field). binds (getD xs (c .before .before .before .before .loop .j) field0)) e ∙ sym (c .before .binds .ensures) ∙ not-true _ (c .if1 .taken)))
 
-array-copy-out-bind-one-7 : tie.Need-array-copy-out-bind-one-7
-array-copy-out-bind-one-7 c = search needs
+mul-d : tie.Need-mul-d Inv-loop μ-loop
+mul-d c = search needs
 
-array-copy-out-bind-one-8 : tie.Need-array-copy-out-bind-one-8
-array-copy-out-bind-one-8 c = search needs
+array-copy-out-d : tie.Need-array-copy-out-d Inv-loop μ-loop
+array-copy-out-d c = search needs
 
-bind-one-requires-4 : tie.Need-bind-one-requires-4
-bind-one-requires-4 c κs = search needs
+cast-next : tie.Need-cast-next Inv-loop μ-loop
+cast-next c = search needs
 
-returns : tie.Need-returns
-unfolding bound bindUpTo
-returns c = rw (c .bind-one4 .ensures, c .before .before .before .bind-one3 .ensures, c .before .before .before .before .before .before .bind-one2 .ensures, c .before .before .before .before .before .before .before .before .before .bind-one .ensures)
+mul-next : tie.Need-mul-next Inv-loop μ-loop
+mul-next c = search needs
+
+array-set-from-next : tie.Need-array-set-from-next Inv-loop μ-loop
+array-set-from-next c =
+    ltb-true _ 8 (and-right (isFormal (getD (c .before .before .before .before .before .before .before .before .args .a .fields) (c .before .before .before .before .before .before .loop .j) field0)) _ (sym (c .before .before .before .binds .ensures) ∙ not-false _ (c .before .before .if1 .left)))
+
+loop-less-2 : tie.Need-loop-less-2 Inv-loop μ-loop
+loop-less-2 c = search needs
+
+loop-again-2 : tie.Need-loop-again-2 Inv-loop μ-loop
+loop-again-2 c =
+    let l = c .before .before .before .before .before .before .loop in (
+      omega (arith, c .before .before .before .before .before .loop-test .taken),
+      λ a e.
+          ap (λ (xs : List Field). set (l .next) (getD xs (l .j) field0 .number) (getD (c .before .before .before .before .before .before .before .before .args .t3) (l .j) datum0)) (sym e) ∙
+          bound-one _ a _ (l .j) _ (l .inv .1 a e) (ap (λ (xs : List Field). binds (getD xs (c .before .before .before .before .before .before .loop .j) field0)) e ∙ sym (c .before .before .before .binds .ensures) ∙ not-false _ (c .before .before .if1 .left)),
+    )
+
+returns : tie.Need-returns Inv-loop μ-loop
+unfolding bound
+returns c =
+    let l = c .before .loop in
+    let e : l .j ≡ 4 = omega arith in
+    l .inv .1 (c .before .before .before .args .a) refl ∙ ap (λ (k : ℕ). bindUpTo k (c .before .before .before .args .vars) (c .before .before .before .args .a) (c .before .before .before .args .t3)) e
 
 pub bind-spec : {M : Type 1} → statement M
 bind-spec =
     tie.close
     (tie.spec
-    array-copy-out-bind-one
-    array-copy-out-bind-one-2
-    bind-one-requires
-    array-copy-out-bind-one-3
-    array-copy-out-bind-one-4
-    bind-one-requires-2
-    array-copy-out-bind-one-5
-    array-copy-out-bind-one-6
-    bind-one-requires-3
-    array-copy-out-bind-one-7
-    array-copy-out-bind-one-8
-    bind-one-requires-4
+    Inv-loop
+    μ-loop
+    loop-holds
+    add-j
+    mul-f
+    array-copy-out-f
+    binds-requires
+    loop-less
+    loop-again
+    mul-d
+    array-copy-out-d
+    cast-next
+    mul-next
+    array-set-from-next
+    loop-less-2
+    loop-again-2
     returns)

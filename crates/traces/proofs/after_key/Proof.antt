@@ -1,6 +1,6 @@
 -- `after_key` meets its contract. Assumes nothing.
-use mathlib.Core.Path.{_≡_, _∙_, sym, ap, ap₂, subst}
-use borrow.Author.Tests.{eq-eqb, ne-eqb, ltb-true, not-true, not-false}
+use mathlib.Core.Path.{_∙_, sym}
+use borrow.Author.Tests.{ltb-true, not-true, not-false}
 use Rattle.traces.specs.Traces.{afterKeyBy}
 use borrow.Author.Needs.{needs}
 use Rattle.traces.proofs.after_key.Statement.{statement}

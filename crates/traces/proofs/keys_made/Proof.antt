@@ -1,32 +1,32 @@
 -- `keys_made` meets its contract. The loop's invariant: the marks are those of the events below `i`. Assumes nothing.
 use mathlib.Core.Logic.{⊎-elim}
-use borrow.Author.Tests.{eq-eqb, ne-eqb}
 use mathlib.Core.Path.{_≡_, _∙_, sym}
 use Prim.Native.Nat.{_-_, _≤_}
 use native.Mathlib.Omega.{arith}
+use borrow.Author.Tests.{eq-eqb, ne-eqb}
+use Rattle.images.specs.Read.{netOf}
 use Rattle.traces.specs.Traces.{madeAt, keyMarks}
 use Rattle.traces.specs.Marks.{keys-start, made-none, made-more}
+use denote.Ref.{now}
 use borrow.Author.Needs.{needs}
 use Rattle.traces.proofs.keys_made.Statement.{statement}
 use Rattle.traces.proofs.keys_made.Tie as tie
 use Rattle.traces.proofs.keys_made.Reads as reads
 use Rattle.traces.proofs.keys_made.Lts as lts
+use Rattle.images.proofs.net_image.slot_at.Reads as slot-at-reads
 use Rattle.traces.proofs.mark_keys.Reads as mark-keys-reads
 
 abbrev Inv-loop : tie.InvT-loop
-Inv-loop n m₀ i₀ m i = (i ≤ 64) × (m ≡ keyMarks i (madeAt n))
+Inv-loop net m₀ i₀ m i = (i ≤ 64) × (m ≡ keyMarks i (madeAt (netOf net)))
 
 abbrev μ-loop : tie.MeasureT-loop
-μ-loop n m₀ i₀ m i = 64 - i
+μ-loop net m₀ i₀ m i = 64 - i
 
 loop-holds : tie.Need-loop-holds Inv-loop μ-loop
 loop-holds c = (search needs, sym (keys-start _))
 
-mul-x : tie.Need-mul-x Inv-loop μ-loop
-mul-x c = search needs
-
-element-copy-out-x : tie.Need-element-copy-out-x Inv-loop μ-loop
-element-copy-out-x c = search needs
+slot-at-requires : tie.Need-slot-at-requires Inv-loop μ-loop
+slot-at-requires c κs = search needs
 
 mark-keys-requires : tie.Need-mark-keys-requires Inv-loop μ-loop
 mark-keys-requires c κs = search needs
@@ -40,10 +40,11 @@ loop-less c = search needs
 loop-again : tie.Need-loop-again Inv-loop μ-loop
 loop-again c =
     let l = c .before .before .before .before .loop in
-    let n = c .before .before .before .before .before .args .t1 in (
+    let n = netOf (now (c .before .before .before .before .before .before .args .net)) in
+    let is = c .before .before .slot-at .ensures in (
       search needs,
-      ⊎-elim (λ w. w .4 ∙ w .3 .ensures ∙ made-more n (l .i) (l .m) (l .inv .1) (eq-eqb _ _ (w .0 .taken)))
-          (λ w. w .1 ∙ made-none n (l .i) (l .m) (l .inv .1) (ne-eqb _ _ (w .0 .left)))
+      ⊎-elim (λ w. w .4 ∙ w .3 .ensures ∙ made-more n (l .i) (l .m) (l .inv .1) _ is (eq-eqb _ _ (w .0 .taken)))
+          (λ w. w .1 ∙ made-none n (l .i) (l .m) (l .inv .1) _ is (ne-eqb _ _ (w .0 .left)))
           (c .if1 .came),
     )
 
@@ -60,8 +61,7 @@ keys-made-spec =
     Inv-loop
     μ-loop
     loop-holds
-    mul-x
-    element-copy-out-x
+    slot-at-requires
     mark-keys-requires
     add-i
     loop-less

@@ -1,23 +1,26 @@
 -- `tuples_taken` meets its contract. The loop's invariant: the marks are those of the events below `i`. Assumes nothing.
 use mathlib.Core.Logic.{⊎-elim}
-use borrow.Author.Tests.{eq-eqb, ne-eqb}
 use mathlib.Core.Path.{_≡_, _∙_, sym}
 use Prim.Native.Nat.{_-_, _≤_}
 use native.Mathlib.Omega.{arith}
+use borrow.Author.Tests.{eq-eqb, ne-eqb}
+use Rattle.images.specs.Read.{netOf}
 use Rattle.traces.specs.Traces.{usedAt, keyMarks}
 use Rattle.traces.specs.Marks.{keys-start, used-none, used-more}
+use denote.Ref.{now}
 use borrow.Author.Needs.{needs}
 use Rattle.traces.proofs.tuples_taken.Statement.{statement}
 use Rattle.traces.proofs.tuples_taken.Tie as tie
 use Rattle.traces.proofs.tuples_taken.Reads as reads
 use Rattle.traces.proofs.tuples_taken.Lts as lts
+use Rattle.images.proofs.net_image.slot_at.Reads as slot-at-reads
 use Rattle.traces.proofs.mark_key.Reads as mark-key-reads
 
 abbrev Inv-loop : tie.InvT-loop
-Inv-loop deeds n m₀ i₀ m i = (i ≤ 64) × (m ≡ keyMarks i (usedAt 2 deeds n))
+Inv-loop net deeds m₀ i₀ m i = (i ≤ 64) × (m ≡ keyMarks i (usedAt 2 deeds (netOf net)))
 
 abbrev μ-loop : tie.MeasureT-loop
-μ-loop deeds n m₀ i₀ m i = 64 - i
+μ-loop net deeds m₀ i₀ m i = 64 - i
 
 loop-holds : tie.Need-loop-holds Inv-loop μ-loop
 loop-holds c = (search needs, sym (keys-start _))
@@ -25,11 +28,8 @@ loop-holds c = (search needs, sym (keys-start _))
 array-read-if1 : tie.Need-array-read-if1 Inv-loop μ-loop
 array-read-if1 c = search needs
 
-mul-x : tie.Need-mul-x Inv-loop μ-loop
-mul-x c = search needs
-
-element-copy-out-x : tie.Need-element-copy-out-x Inv-loop μ-loop
-element-copy-out-x c = search needs
+slot-at-requires : tie.Need-slot-at-requires Inv-loop μ-loop
+slot-at-requires c κs = search needs
 
 mark-key-requires : tie.Need-mark-key-requires Inv-loop μ-loop
 mark-key-requires c κs = search needs
@@ -43,10 +43,11 @@ loop-less c = search needs
 loop-again : tie.Need-loop-again Inv-loop μ-loop
 loop-again c =
     let l = c .before .before .loop in
-    let a = c .before .before .before .args in (
+    let a = c .before .before .before .before .args in
+    let n = netOf (now (a .net)) in (
       search needs,
-      ⊎-elim (λ w. w .4 ∙ w .3 .ensures ∙ used-more 2 (a .t1) (a .t2) (l .i) (l .m) (l .inv .1) (eq-eqb _ _ (w .0 .taken)))
-          (λ w. w .1 ∙ used-none 2 (a .t1) (a .t2) (l .i) (l .m) (l .inv .1) (ne-eqb _ _ (w .0 .left)))
+      ⊎-elim (λ w. w .4 ∙ w .3 .ensures ∙ used-more 2 (a .t1) n (l .i) (l .m) (l .inv .1) (eq-eqb _ _ (w .0 .taken)) _ (w .1 .ensures))
+          (λ w. w .1 ∙ used-none 2 (a .t1) n (l .i) (l .m) (l .inv .1) (ne-eqb _ _ (w .0 .left)))
           (c .if1 .came),
     )
 
@@ -64,8 +65,7 @@ tuples-taken-spec =
     μ-loop
     loop-holds
     array-read-if1
-    mul-x
-    element-copy-out-x
+    slot-at-requires
     mark-key-requires
     add-i
     loop-less

@@ -1,66 +1,64 @@
--- `refs_in_range` meets its contract. The loop's invariant: each reference below `j` is in range. Assumes nothing.
-use mathlib.Core.Path.{_≡_, _∙_, sym}
-use mathlib.Core.Bool.{true}
-use Prim.Native.Nat.{ℕ, _-_, _<_, _≤_}
-use native.Mathlib.Omega.{arith}
-use lib.Dec.{eqb}
-use lib.ListN.{getD}
+-- `refs_in_range` meets its contract: the first reference out of range ends it. Assumes nothing.
+use mathlib.Core.Path.{_∙_, sym}
+use denote.Ref.{now}
+use borrow.Author.Tests.{not-false, not-true}
+use Rattle.images.specs.Formed.{refs-here}
 use borrow.Author.Needs.{needs}
-use borrow.Author.Tests.{not-true, not-false}
-use borrow.Author.Count.{below-none, below-more}
-use Rattle.laws.specs.Checks.{all-of, all-not}
-use Rattle.names.specs.Names.{key, isKeyOrNone}
-use Rattle.images.specs.Net.{refsInRange}
 use Rattle.images.proofs.net_image.refs_in_range.Statement.{statement}
 use Rattle.images.proofs.net_image.refs_in_range.Tie as tie
+use Rattle.images.proofs.net_image.refs_in_range.Reads as reads
+use Rattle.images.proofs.net_image.refs_in_range.Lts as lts
+use Rattle.names.proofs.Key.is_key_or_none.Reads as is-key-or-none-reads
 
-abbrev Inv-loop : tie.InvT-loop
-Inv-loop refs j₀ j = (j ≤ 4) × ((i : ℕ) → i < j → isKeyOrNone (getD refs i (key 0)) ≡ true)
+shared-slice-read-t7 : tie.Need-shared-slice-read-t7
+shared-slice-read-t7 c = search needs
 
-abbrev μ-loop : tie.MeasureT-loop
-μ-loop refs j₀ j = 4 - j
-
-loop-holds : tie.Need-loop-holds Inv-loop μ-loop
-loop-holds c = (search needs, below-none _)
-
-array-copy-out-k : tie.Need-array-copy-out-k Inv-loop μ-loop
-array-copy-out-k c = search needs
-
-is-key-or-none-requires : tie.Need-is-key-or-none-requires Inv-loop μ-loop
+is-key-or-none-requires : tie.Need-is-key-or-none-requires
 is-key-or-none-requires c κs = search needs
 
-returns : tie.Need-returns Inv-loop μ-loop
-unfolding refsInRange
-returns c =
-    sym (all-not 4 _ (c .before .before .before .before .loop .j) (c .before .before .before .loop-test .taken) (sym (c .before .is-key-or-none .ensures) ∙ not-true _ (c .if1 .taken)))
+returns : tie.Need-returns
+returns c = rw (sym (refs-here (now (c .before .before .before .before .args .p))), sym (c .before .is-key-or-none .ensures) ∙ not-true _ (c .if1 .taken))
 
-add-j : tie.Need-add-j Inv-loop μ-loop
-add-j c = search needs
+shared-slice-read-t7-2 : tie.Need-shared-slice-read-t7-2
+shared-slice-read-t7-2 c = search needs
 
-loop-less : tie.Need-loop-less Inv-loop μ-loop
-loop-less c = search needs
+is-key-or-none-requires-2 : tie.Need-is-key-or-none-requires-2
+is-key-or-none-requires-2 c κs = search needs
 
-loop-again : tie.Need-loop-again Inv-loop μ-loop
-loop-again c =
-    (search needs, below-more _ _ (c .before .before .before .before .loop .inv .1) (sym (c .before .is-key-or-none .ensures) ∙ not-false _ (c .if1 .left)))
+returns-2 : tie.Need-returns-2
+returns-2 c = rw (sym (refs-here (now (c .before .before .before .before .before .before .before .args .p))), sym (c .before .before .before .before .is-key-or-none .ensures) ∙ not-false _ (c .before .before .before .if1 .left), sym (c .before .is-key-or-none2 .ensures) ∙ not-true _ (c .if2 .taken))
 
-returns-2 : tie.Need-returns-2 Inv-loop μ-loop
-unfolding refsInRange
-returns-2 c =
-    let e : c .before .loop .j ≡ 4 = omega arith in
-    sym (all-of 4 _ (rw e at (c .before .loop .inv .1)))
+shared-slice-read-t7-3 : tie.Need-shared-slice-read-t7-3
+shared-slice-read-t7-3 c = search needs
+
+is-key-or-none-requires-3 : tie.Need-is-key-or-none-requires-3
+is-key-or-none-requires-3 c κs = search needs
+
+returns-3 : tie.Need-returns-3
+returns-3 c = rw (sym (refs-here (now (c .before .before .before .before .before .before .before .before .before .before .args .p))), sym (c .before .before .before .before .before .before .before .is-key-or-none .ensures) ∙ not-false _ (c .before .before .before .before .before .before .if1 .left), sym (c .before .before .before .before .is-key-or-none2 .ensures) ∙ not-false _ (c .before .before .before .if2 .left), sym (c .before .is-key-or-none3 .ensures) ∙ not-true _ (c .if3 .taken))
+
+shared-slice-read-t7-4 : tie.Need-shared-slice-read-t7-4
+shared-slice-read-t7-4 c = search needs
+
+is-key-or-none-requires-4 : tie.Need-is-key-or-none-requires-4
+is-key-or-none-requires-4 c κs = search needs
+
+returns-4 : tie.Need-returns-4
+returns-4 c = rw (sym (refs-here (now (c .before .before .before .before .before .before .before .before .before .before .before .before .args .p))), sym (c .before .before .before .before .before .before .before .before .before .is-key-or-none .ensures) ∙ not-false _ (c .before .before .before .before .before .before .before .before .if1 .left), sym (c .before .before .before .before .before .before .is-key-or-none2 .ensures) ∙ not-false _ (c .before .before .before .before .before .if2 .left), sym (c .before .before .before .is-key-or-none3 .ensures) ∙ not-false _ (c .before .before .if3 .left), c .is-key-or-none4 .ensures)
 
 pub refs-in-range-spec : {M : Type 1} → statement M
 refs-in-range-spec =
     tie.close
     (tie.spec
-    Inv-loop
-    μ-loop
-    loop-holds
-    array-copy-out-k
+    shared-slice-read-t7
     is-key-or-none-requires
     returns
-    add-j
-    loop-less
-    loop-again
-    returns-2)
+    shared-slice-read-t7-2
+    is-key-or-none-requires-2
+    returns-2
+    shared-slice-read-t7-3
+    is-key-or-none-requires-3
+    returns-3
+    shared-slice-read-t7-4
+    is-key-or-none-requires-4
+    returns-4)

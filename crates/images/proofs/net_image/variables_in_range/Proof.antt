@@ -1,41 +1,42 @@
 -- `variables_in_range` meets its contract. The loop's invariant: each variable below `j` is in range. Assumes nothing.
-use mathlib.Core.Path.{_≡_, _∙_, sym}
+use mathlib.Core.Path.{_≡_, _∙_, ap, sym}
 use mathlib.Core.Bool.{true}
 use Prim.Native.Nat.{ℕ, _-_, _<_, _≤_}
 use native.Mathlib.Omega.{arith}
-use lib.Dec.{eqb}
-use lib.ListN.{getD}
-use borrow.Author.Needs.{needs}
+use denote.Ref.{now}
 use borrow.Author.Tests.{not-true, not-false}
 use borrow.Author.Count.{below-none, below-more}
 use Rattle.laws.specs.Checks.{all-of, all-not}
-use Rattle.names.specs.Names.{key, isKeyOrNone}
-use Rattle.images.specs.Net.{datum0, isDatum, variablesInRange}
+use Rattle.images.specs.Net.{isDatum}
+use Rattle.images.specs.Read.{datumOf}
+use Rattle.images.specs.Formed.{variables-here}
+use borrow.Author.Needs.{needs}
 use Rattle.images.proofs.net_image.variables_in_range.Statement.{statement}
 use Rattle.images.proofs.net_image.variables_in_range.Tie as tie
+use Rattle.images.proofs.net_image.variables_in_range.Reads as reads
+use Rattle.images.proofs.net_image.variables_in_range.Lts as lts
+use Rattle.images.proofs.net_image.datum_of.Reads as datum-of-reads
+use Rattle.images.proofs.net_image.is_datum.Reads as is-datum-reads
 
 abbrev Inv-loop : tie.InvT-loop
-Inv-loop contents j₀ j = (j ≤ 8) × ((i : ℕ) → i < j → isDatum (getD contents i datum0) ≡ true)
+Inv-loop p j₀ j = (j ≤ 8) × ((i : ℕ) → i < j → isDatum (datumOf p i) ≡ true)
 
 abbrev μ-loop : tie.MeasureT-loop
-μ-loop contents j₀ j = 8 - j
+μ-loop p j₀ j = 8 - j
 
 loop-holds : tie.Need-loop-holds Inv-loop μ-loop
 loop-holds c = (search needs, below-none _)
 
-mul-d : tie.Need-mul-d Inv-loop μ-loop
-mul-d c = search needs
-
-array-copy-out-d : tie.Need-array-copy-out-d Inv-loop μ-loop
-array-copy-out-d c = search needs
+datum-of-requires : tie.Need-datum-of-requires Inv-loop μ-loop
+datum-of-requires c κs = search needs
 
 is-datum-requires : tie.Need-is-datum-requires Inv-loop μ-loop
 is-datum-requires c κs = search needs
 
 returns : tie.Need-returns Inv-loop μ-loop
-unfolding variablesInRange
 returns c =
-    sym (all-not 8 _ (c .before .before .before .before .loop .j) (c .before .before .before .loop-test .taken) (sym (c .before .is-datum .ensures) ∙ not-true _ (c .if1 .taken)))
+    let e = ap isDatum (sym (c .before .before .datum-of .ensures)) ∙ sym (c .before .is-datum .ensures) ∙ not-true _ (c .if1 .taken) in
+    sym (all-not 8 _ (c .before .before .before .before .loop .j) (c .before .before .before .loop-test .taken) e) ∙ variables-here (now (c .before .before .before .before .before .before .args .p))
 
 add-j : tie.Need-add-j Inv-loop μ-loop
 add-j c = search needs
@@ -45,13 +46,13 @@ loop-less c = search needs
 
 loop-again : tie.Need-loop-again Inv-loop μ-loop
 loop-again c =
-    (search needs, below-more _ _ (c .before .before .before .before .loop .inv .1) (sym (c .before .is-datum .ensures) ∙ not-false _ (c .if1 .left)))
+    let e = ap isDatum (sym (c .before .before .datum-of .ensures)) ∙ sym (c .before .is-datum .ensures) ∙ not-false _ (c .if1 .left) in
+    (search needs, below-more _ _ (c .before .before .before .before .loop .inv .1) e)
 
 returns-2 : tie.Need-returns-2 Inv-loop μ-loop
-unfolding variablesInRange
 returns-2 c =
     let e : c .before .loop .j ≡ 8 = omega arith in
-    sym (all-of 8 _ (rw e at (c .before .loop .inv .1)))
+    sym (all-of 8 _ (rw e at (c .before .loop .inv .1))) ∙ variables-here (now (c .before .before .before .args .p))
 
 pub variables-in-range-spec : {M : Type 1} → statement M
 variables-in-range-spec =
@@ -60,8 +61,7 @@ variables-in-range-spec =
     Inv-loop
     μ-loop
     loop-holds
-    mul-d
-    array-copy-out-d
+    datum-of-requires
     is-datum-requires
     returns
     add-j

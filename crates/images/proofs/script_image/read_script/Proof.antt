@@ -1,70 +1,36 @@
--- `read_script` meets its contract: the first test that fails ends it. Assumes nothing.
-use mathlib.Core.Path.{_∙_, sym, ap}
-use Prim.Native.Nat.{ℕ}
-use lib.Dec.{eqb}
-use borrow.Author.Tests.{eq-eqb, ne-eqb, not-true, not-false}
+-- `read_script` meets its contract. Assumes nothing.
+use mathlib.Core.Path.{_∙_, sym}
+use borrow.Author.Tests.{eqb-true, not-true, not-false}
+use Rattle.laws.specs.Choice.{and-left}
 use Rattle.images.specs.Read.{scriptFormed, readScript}
 use borrow.Author.Needs.{needs}
 use Rattle.images.proofs.script_image.read_script.Statement.{statement}
 use Rattle.images.proofs.script_image.read_script.Tie as tie
+use Rattle.images.proofs.script_image.read_script.Reads as reads
+use Rattle.images.proofs.script_image.read_script.Lts as lts
+use Rattle.images.proofs.script_image.refused.Reads as refused-reads
+use Rattle.images.proofs.script_image.script_formed.Reads as script-formed-reads
+use Rattle.images.proofs.script_image.script_of.Reads as script-of-reads
+
+script-formed-requires : tie.Need-script-formed-requires
+script-formed-requires c κs = search needs
 
 refused-requires : tie.Need-refused-requires
 refused-requires c κs = search needs
 
 returns : tie.Need-returns
-unfolding readScript scriptFormed
-returns c = rw (c .refused .ensures, ne-eqb _ _ (c .before .if1 .taken))
+unfolding readScript
+returns c = rw (sym (c .before .before .script-formed .ensures) ∙ not-true _ (c .before .if1 .taken), c .refused .ensures)
 
-head-formed-requires : tie.Need-head-formed-requires
-head-formed-requires c κs = search needs
-
-refused-requires-2 : tie.Need-refused-requires-2
-refused-requires-2 c κs = search needs
+script-of-requires : tie.Need-script-of-requires
+unfolding scriptFormed
+script-of-requires c κs = eqb-true _ 2064 (and-left _ _ (sym (c .before .script-formed .ensures) ∙ not-false _ (c .if1 .left)))
 
 returns-2 : tie.Need-returns-2
-unfolding readScript scriptFormed
-returns-2 c = rw (c .refused2 .ensures, eq-eqb _ _ (c .before .before .before .if1 .left), sym (c .before .before .head-formed .ensures) ∙ not-true _ (c .before .if2 .taken))
-
-word-at-requires : tie.Need-word-at-requires
-word-at-requires c κs = search needs
-
-refused-requires-3 : tie.Need-refused-requires-3
-refused-requires-3 c κs = search needs
-
-returns-3 : tie.Need-returns-3
-unfolding readScript scriptFormed
-returns-3 c =
-    rw (
-      c .refused3 .ensures,
-      eq-eqb _ _ (c .before .before .before .before .before .if1 .left),
-      sym (c .before .before .before .before .head-formed .ensures) ∙ not-false _ (c .before .before .before .if2 .left),
-      ap (λ (w : ℕ). eqb w 0) (sym (c .before .before .word-at .ensures)) ∙ ne-eqb _ _ (c .before .if3 .taken),
-    )
-
-read-nodes-requires : tie.Need-read-nodes-requires
-read-nodes-requires c κs = search needs
-
-returns-4 : tie.Need-returns-4
-unfolding readScript scriptFormed
-returns-4 c =
-    rw (
-      c .read-nodes .ensures,
-      eq-eqb _ _ (c .before .before .before .before .before .if1 .left),
-      sym (c .before .before .before .before .head-formed .ensures) ∙ not-false _ (c .before .before .before .if2 .left),
-      ap (λ (w : ℕ). eqb w 0) (sym (c .before .before .word-at .ensures)) ∙ eq-eqb _ _ (c .before .if3 .left),
-    )
+unfolding readScript
+returns-2 c = rw (sym (c .before .before .script-formed .ensures) ∙ not-false _ (c .before .if1 .left), c .script-of .ensures)
 
 pub read-script-spec : {M : Type 1} → statement M
 read-script-spec =
     tie.close
-    (tie.spec
-    refused-requires
-    returns
-    head-formed-requires
-    refused-requires-2
-    returns-2
-    word-at-requires
-    refused-requires-3
-    returns-3
-    read-nodes-requires
-    returns-4)
+    (tie.spec script-formed-requires refused-requires returns script-of-requires returns-2)

@@ -1,0 +1,128 @@
+// Steps on the lent bytes of a net: a step that is done is written where it changes something, and nothing else is read or copied.
+ghost use mathlib.Core.Path.{_≡_};
+ghost use mathlib.Core.Bool.{_&&_};
+ghost use Prim.Native.Nat.{_<_};
+ghost use lib.ListN.{length};
+ghost use Rattle.images.specs.Net.{slotAt};
+ghost use Rattle.images.specs.Read.{scriptOf, netOf};
+ghost use Rattle.step.specs.Tests.{noneReads};
+ghost use Rattle.step.specs.Forward.{forwardDone};
+ghost use Rattle.step.specs.Backward.{backwardDone};
+ghost use Rattle.step.specs.InPlace.{changeBytes};
+use super::as_new;
+use super::backward::backward_other;
+use super::backward::freed_at;
+use super::backward::is_either;
+use super::backward::present_before;
+use super::forward::forward_other;
+use super::forward::past_slot;
+use super::forward::present_after;
+use images::Action;
+use images::Slot;
+use images::net_image::free_slot;
+use images::net_image::put_present;
+use images::net_image::put_slot;
+use images::net_image::slot_at;
+use images::script_image::node_in;
+use names::Key;
+use names::Localities;
+use products::continuation;
+use requests::Request;
+
+// The step of the process x at its node a, which meets the tuple t, once no check refuses it.
+pub fn write_forward(a: Action, x: Slot, t: Slot, present: Localities, r: Request, net: &mut [u8])
+    requires { ⌜ length (now net) ≡ 3600 ⌝ }
+    ensures { λ _. ⌜ now (net .exit) ≡ changeBytes (forwardDone a x t present r) (now (net .entry)) ⌝ }
+{
+    let key = r.key;
+    let event = past_slot(x, r);
+    put_slot(key, event, net);
+    let fields = t.contents;
+    let place = r.place;
+    let next = continuation(a, key, x, fields, place);
+    let at = r.first;
+    put_slot(at, next, net);
+    let other = forward_other(a, x, t, r);
+    let there = other.key;
+    let slot = other.slot;
+    put_slot(there, slot, net);
+    let after = present_after(a.kind, present, place);
+    put_present(after, net);
+}
+
+// The event x at its node a, which used the tuple t, is undone, once no check refuses it; first and second stand at the keys that it made. The
+// localities at which a slot becomes free.
+pub fn write_backward(
+    a: Action,
+    x: Slot,
+    first: Slot,
+    second: Slot,
+    t: Slot,
+    present: Localities,
+    key: Key,
+    net: &mut [u8],
+) -> Localities
+    requires { ⌜ length (now net) ≡ 3600 ⌝ }
+    ensures { λ r. ⌜ r ≡ backwardDone a x first second t present key .touched ⌝ }
+    ensures { λ _. ⌜ now (net .exit) ≡ changeBytes (backwardDone a x first second t present key) (now (net .entry)) ⌝ }
+{
+    let live = as_new(Slot::LIVE, x);
+    put_slot(key, live, net);
+    let free = free_slot();
+    let one = x.first;
+    put_slot(one, free, net);
+    let other = backward_other(a, x, t);
+    let at = other.key;
+    let slot = other.slot;
+    put_slot(at, slot, net);
+    let place = x.place;
+    let before = present_before(a.kind, present, place);
+    put_present(before, net);
+    let none = Localities::EMPTY;
+    let there = freed_at(none, one, first);
+    let two = x.second;
+    freed_at(there, two, second)
+}
+
+// ---- who read what an event made
+
+// The kind of slot i of an image, and the tuple that it used: most slots hold no event, and nothing more is read of these.
+fn kind_at(net: &[u8], i: usize) -> u8
+    requires { ⌜ (length (now net) ≡ 3600) × (i < 64) ⌝ }
+    ensures { λ r. ⌜ r ≡ slotAt (netOf (now (net .entry))) i .kind ⌝ }
+{
+    net[16 + 56 * i]
+}
+
+fn used_at(net: &[u8], i: usize) -> Key
+    requires { ⌜ (length (now net) ≡ 3600) × (i < 64) ⌝ }
+    ensures { λ r. ⌜ r ≡ slotAt (netOf (now (net .entry))) i .used ⌝ }
+{
+    Key(net[21 + 56 * i])
+}
+
+// No past read used either key.
+pub fn unread_in(script: &[u8], net: &[u8], one: Key, two: Key) -> bool
+    requires { ⌜ (length (now script) ≡ 2064) × (length (now net) ≡ 3600) ⌝ }
+    ensures { λ r. ⌜ r ≡ noneReads (scriptOf (now (script .entry))) (netOf (now (net .entry))) one && noneReads (scriptOf (now (script .entry))) (netOf (now (net .entry))) two ⌝ }
+{
+    let mut next: usize = 0;
+    while next < Key::COUNT {
+        let i = next;
+        next += 1;
+        if kind_at(net, i) != Slot::PAST {
+            continue;
+        }
+        let used = used_at(net, i);
+        if !is_either(used, one, two) {
+            continue;
+        }
+        let x = slot_at(net, i);
+        let node = x.node;
+        let a = node_in(script, node);
+        if a.kind == Action::READ {
+            return false;
+        }
+    }
+    true
+}
