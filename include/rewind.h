@@ -17,8 +17,7 @@
  * Nothing is kept between calls, nothing is allocated, and no file is read or
  * written. So any number of threads may call at once: on different nets, or
  * all questions (not rewind_call) on the same. A call always returns. It takes
- * about 5 KB of the caller's stack, and a question about 40 KB, which is
- * measured and not proved.
+ * about 5 KB of the caller's stack, which is measured and not proved.
  */
 #ifndef REWIND_H
 #define REWIND_H

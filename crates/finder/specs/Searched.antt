@@ -1,7 +1,7 @@
 -- The finder's checks and its search as the code makes them, on the slots that it looks at; and that they are those of `Finder`, of the net that the
 -- slots are from.
 -- In order: the checks before the search (`finderTests`), and one turn of it (`meetsAt`); a list of checks by its parts (`stops`, `goes-on`); that the
--- tests are the checks (`before-tests`), and the turns the tuples that meet (`meets-is`); what the finder gives, from what was looked up: a refusal
+-- tests are the checks (`before-tests`), and the turns the tuples that meet (`meets-is`); what the finder gives, from what was looked up: a turn (`seen`), a refusal
 -- before the search (`not-searched`), the first tuple that meets (`searched-to`), and none (`searched-all`).
 -- Assumes nothing.
 use Prim.Native.Nat.{ℕ, _<_}
@@ -135,13 +135,19 @@ module _ (s : Script) (nodes : length (s .nodes) ≡ nodeCount) (n : Images.Net)
 
 -- ---- what the finder gives, from what was looked up
 
+-- a turn of the search
+pub seen : (n : Images.Net) (a : Action) (vars : List Datum) (l : Locality) (j : ℕ) (held : Image.Slot) → held ≡ slotAt n j → (r v : Bool)
+    → r ≡ meetsAt a vars l held → r ≡ v → meetsAt a vars l (slotAt n j) ≡ v
+seen n a vars l j held is r v e h = ap (meetsAt a vars l) (sym is) ∙ sym e ∙ h
+
 module _ (s : Script) (nodes : length (s .nodes) ≡ nodeCount) (n : Images.Net) (k : Key) (x : Image.Slot) (a : Action)
-    (is-x : x ≡ slotWith n k) (is-a : a ≡ nodeWith s (x .node)) (o : Answer) (is-o : o ≡ answerOf (refusal (finderTests a x (n .present) k))) where
+    (present : Localities) (is-x : x ≡ slotWith n k) (is-a : a ≡ nodeWith s (x .node)) (is-p : present ≡ n .present) (o : Answer)
+    (is-o : o ≡ answerOf (refusal (finderTests a x present k))) where
   the-node : a ≡ nodeWith s (slotWith n k .node)
   the-node = is-a ∙ ap (λ (z : Image.Slot). nodeWith s (z .node)) is-x
 
   answered : o ≡ answerOf (refusal (beforeSearch (view s n) (k .0)))
-  answered = is-o ∙ (λ i. answerOf (refusal (finderTests (the-node i) (is-x i) (n .present) k))) ∙ ap answerOf (before-tests s nodes n k)
+  answered = is-o ∙ (λ i. answerOf (refusal (finderTests (the-node i) (is-x i) (is-p i) k))) ∙ ap answerOf (before-tests s nodes n k)
 
   pub not-searched : isDone o ≡ false → found o (key none) ≡ foundOf s n k
   unfolding foundOf finderChecks

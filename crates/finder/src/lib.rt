@@ -1,7 +1,9 @@
-// The finder and the helpers of document 01, over a taken-apart script and net: which tuple a process at an in or a read would meet, and which
+// The finder and the helpers of document 01, on the bytes of a script and a net: which tuple a process at an in or a read would meet, and which
 // names are left for a step to make. Nothing is changed by asking.
 ghost use mathlib.Core.Path.{_≡_};
+ghost use lib.ListN.{length};
 ghost use Rattle.names.specs.Names.{none, key, isKey};
+ghost use Rattle.images.specs.Read.{scriptOf, netOf};
 ghost use Rattle.products.specs.Products.{meetsTuple};
 ghost use Rattle.requests.specs.Checks.{refusal};
 ghost use Rattle.requests.specs.Requests.{answerOf};
@@ -11,14 +13,12 @@ ghost use Rattle.finder.specs.Helpers.{freeKey, absentLocality};
 ghost use Rattle.finder.specs.Searched.{finderTests, meetsAt};
 use images::Action;
 use images::Datum;
-use images::Net;
-use images::Script;
 use images::Slot;
-use images::net_image::index_of;
 use images::net_image::is_free;
-use images::net_image::slot_or_free;
-use images::script_image::node_index;
-use images::script_image::node_or_nil;
+use images::net_image::present_in;
+use images::net_image::slot_at;
+use images::net_image::slot_in;
+use images::script_image::node_in;
 use names::Key;
 use names::Localities;
 use names::Locality;
@@ -109,18 +109,15 @@ fn refused(answer: Answer) -> Found
     }
 }
 
-// Any script, net and key: document 01's answer from check 3 on, and "the least key of a live tuple at the target that matches".
-pub fn find(s: Script, n: Net, key: Key) -> Found
-    ensures { λ o. ⌜ o ≡ foundOf s n key ⌝ }
+// Any images of their lengths, and any key: document 01's answer from check 3 on, and "the least key of a live tuple at the target that matches".
+pub fn find(script: &[u8], net: &[u8], key: Key) -> Found
+    requires { ⌜ (length (now script) ≡ 2064) × (length (now net) ≡ 3600) ⌝ }
+    ensures { λ o. ⌜ o ≡ foundOf (scriptOf (now (script .entry))) (netOf (now (net .entry))) key ⌝ }
 {
-    let i = index_of(key);
-    let at_key = n.slots[i];
-    let x = slot_or_free(key, at_key);
+    let x = slot_in(net, key);
     let node = x.node;
-    let p = node_index(node);
-    let action = s.nodes[p];
-    let a = node_or_nil(node, action);
-    let present = n.present;
+    let a = node_in(script, node);
+    let present = present_in(net);
     let answer = finder_answer(a, x, present, key);
     let Check::Holds = all_hold(answer) else {
         return refused(answer);
@@ -128,8 +125,8 @@ pub fn find(s: Script, n: Net, key: Key) -> Found
     let vars = x.contents;
     let l = target_of(a, vars);
     let mut t: u8 = 0;
-    while t < Key::COUNT as u8 {
-        let held = n.slots[t as usize];
+    while t < 64 {
+        let held = slot_at(net, t as usize);
         if meets_at(a, vars, l, held) {
             return Found {
                 answer: Answer::Done,
@@ -144,12 +141,13 @@ pub fn find(s: Script, n: Net, key: Key) -> Found
 // ---- the helpers
 
 // "the least free key"; none exactly when none is left.
-pub fn free_key(n: Net) -> Key
-    ensures { λ r. ⌜ r ≡ freeKey n ⌝ }
+pub fn free_key(net: &[u8]) -> Key
+    requires { ⌜ length (now net) ≡ 3600 ⌝ }
+    ensures { λ r. ⌜ r ≡ freeKey (netOf (now (net .entry))) ⌝ }
 {
     let mut k: u8 = 0;
-    while k < Key::COUNT as u8 {
-        let x = n.slots[k as usize];
+    while k < 64 {
+        let x = slot_at(net, k as usize);
         if is_free(x) {
             return Key(k);
         }

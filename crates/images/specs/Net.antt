@@ -1,9 +1,9 @@
 -- The net image: the bytes of a net, and which nets are in range. Document 01, "Net, 3,600 bytes".
 -- Which of the nets in range are accepted is another matter, and not said here.
 -- Assumes nothing.
-use Prim.Native.Nat.{ℕ, _+_, _*_}
+use Prim.Native.Nat.{ℕ, _+_}
 use mathlib.Core.List.{List, [], _∷_, _++_}
-use mathlib.Core.Bool.{Bool, true, false, _&&_}
+use mathlib.Core.Bool.{Bool, true, _&&_}
 use lib.Dec.{eqb, ltb, leb}
 use lib.ListN.{length, getD, replicate}
 use Rattle.laws.specs.Choice.{pick}
@@ -42,12 +42,9 @@ abbrev pub freeSlot : Slot
 freeSlot =
     record { kind = 0; locality = locality 0; node = node 0; count = 0; first = key 0; second = key 0; used = key 0; place = locality 0; contents = replicate 8 datum0; refs = replicate 4 (key 0) }
 
--- where the slot with this key stands, and what was found there; where there is no such key, nothing is held
+-- a key as a place in a table; some place where there is no such key
 abbrev pub indexOf : Key → ℕ
 indexOf k = pick (ltb (k .0) keyCount) (k .0) 0
-
-abbrev pub slotOr : Key → Slot → Slot
-slotOr k x = pick (ltb (k .0) keyCount) x freeSlot
 
 -- the slot with this key; where there is no such key, nothing is held
 abbrev pub slotWith : Net → Key → Slot

@@ -63,13 +63,6 @@ nilAction =
 abbrev pub goodScript : Script → ScriptRead
 goodScript s = record { form = Form.Good; script = s }
 
--- where the node of this number stands, and what was found there; where there is no such node, nil
-abbrev pub nodeIndex : Node → ℕ
-nodeIndex k = pick (isNode k) (k .0) 0
-
-abbrev pub nodeOr : Node → Action → Action
-nodeOr k a = pick (isNode k) a nilAction
-
 -- the node of this number; where there is no such node, nil
 abbrev pub nodeWith : Script → Node → Action
 nodeWith s k = pick (isNode k) (actionAt s (k .0)) nilAction

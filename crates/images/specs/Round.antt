@@ -4,14 +4,14 @@
 use mathlib.Core.Path.{_≡_, refl, ap, ap₂, sym, _∙_, subst}
 use mathlib.Core.List.{List, [], _∷_, _++_, append-assoc, append-nil}
 use mathlib.Core.Bool.{Bool, true, false, _&&_}
-use Prim.Native.Nat.{ℕ, zero, suc, _+_, _-_, _*_, _^_, _<_, _≤_}
+use Prim.Native.Nat.{ℕ, zero, suc, _+_, _-_, _*_, _<_, _≤_}
 use native.Mathlib.Nat.{mul-suc, mul-le-mul-left}
 use native.Mathlib.Omega.{arith}
 use lib.Dec.{eqb, leb}
-use lib.ListN.{length, getD, take, drop, length-append, length-take, length-drop, take-append-drop}
-use lib.Seq.{take-add, drop-drop, take-all, length-take-le}
+use lib.ListN.{length, getD, take, drop, length-append, length-drop}
+use lib.Seq.{take-add, drop-drop, length-take-le}
 use borrow.Author.Tests.{eqb-true, eqb-false, eq-eqb, ne-eqb, leb-true, leb-false}
-use Rattle.laws.specs.Choice.{pick, cases, clash, and-left, and-right, and-both}
+use Rattle.laws.specs.Choice.{pick, cases, and-left, and-right, and-both}
 use Rattle.laws.specs.Lists.{tab, tab-of, tab-ext, tab-part, length-tab, getD-tab, getD-tab-in}
 use Rattle.laws.specs.Checks.{all, all-of, all-at}
 use Rattle.laws.specs.Parts.{flat, flat-parts, part-flat-in, whole, pieces-three, pieces-four}
@@ -20,7 +20,6 @@ use Rattle.images.specs.Head.{byte, headBytes, headFormed, partAt, pairB
 use Rattle.images.specs.Layout.{length-head, length-action, length-slot, length-script, length-net}
 use Rattle.images.specs.Shape.{Word, ShapedAction, ShapedScript, ShapedSlot, ShapedNet}
 use Rattle.names.specs.Names.{keyCount, nodeCount, none, key, locality, node, reference, isLocality, isNode}
-use Rattle.names.specs.declared.Key.{Key}
 use Rattle.images.specs.Script
 use Rattle.images.specs.Script.{actionBytes, scriptBytes, actionInRange, scriptInRange, fieldAt, actionAt, field0, action0}
 use Rattle.images.specs.Net

@@ -1,6 +1,6 @@
 -- The script image: the bytes of a script, and which scripts are in range. Document 01, "Script, 2,064 bytes".
 -- Assumes nothing.
-use Prim.Native.Nat.{ℕ, _+_, _*_}
+use Prim.Native.Nat.{ℕ, _+_}
 use mathlib.Core.List.{List, [], _∷_, _++_}
 use mathlib.Core.Bool.{Bool, true, false, _&&_, not}
 use lib.Dec.{eqb, ltb, leb}
@@ -9,7 +9,7 @@ use Rattle.laws.specs.Choice.{pick}
 use Rattle.laws.specs.Lists.{tab}
 use Rattle.laws.specs.Checks.{all}
 use Rattle.laws.specs.Parts.{flat}
-use Rattle.names.specs.Names.{nodeCount, variableCount, firstMade, referenceCount, none, belowOrNone, isNode, isReferenceOrNone, node, reference}
+use Rattle.names.specs.Names.{nodeCount, referenceCount, none, belowOrNone, node, reference}
 use Rattle.images.specs.Head.{headBytes, pairBytes}
 use Rattle.images.specs.declared.Field.{Field}
 use Rattle.images.specs.declared.Action.{Action}

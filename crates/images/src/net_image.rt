@@ -10,7 +10,7 @@ ghost use Rattle.laws.specs.Parts.{flat};
 ghost use Rattle.laws.specs.Words.{word};
 ghost use Rattle.names.specs.Names.{key, node};
 ghost use Rattle.images.specs.Head.{byte};
-ghost use Rattle.images.specs.Net.{datum0, isTuple, nodeOrCount, firstBytes, slotBytes, netBytes, netWritten, writtenInto, isUnset, isSet, isDatum, variablesInRange, fieldOrBlank, dataFill, madeAre, refsAre, madeInRange, refsInRange, freeInRange, processInRange, tupleInRange, slotInRange, freeSlot, indexOf, slotOr, slotWith, slotAt, isFree};
+ghost use Rattle.images.specs.Net.{datum0, isTuple, nodeOrCount, firstBytes, slotBytes, netBytes, netWritten, writtenInto, isUnset, isSet, isDatum, variablesInRange, fieldOrBlank, dataFill, madeAre, refsAre, madeInRange, refsInRange, freeInRange, processInRange, tupleInRange, slotInRange, freeSlot, indexOf, slotWith, slotAt, isFree};
 ghost use Rattle.images.specs.InPlace.{slotPut, presentPut};
 ghost use Rattle.images.specs.Read.{datumOf, slotOf, slotFormed, slotsFormed, netOf, netFormed, badNet, readNet};
 use super::Datum;
@@ -409,8 +409,7 @@ pub fn free_slot() -> Slot
     }
 }
 
-// Where the slot with this key stands among the slots; some place where there is no such key. Whoever holds a net looks up by this and
-// `slot_or_free`, since a net that is passed on is copied.
+// The key as a place in a table of 64; some place where there is no such key.
 pub fn index_of(k: Key) -> usize
     ensures { λ r. ⌜ r ≡ indexOf k ⌝ }
 {
@@ -418,16 +417,6 @@ pub fn index_of(k: Key) -> usize
         return k.0 as usize;
     }
     0
-}
-
-// The slot that was found for this key; where there is no such key, nothing is held.
-pub fn slot_or_free(k: Key, x: Slot) -> Slot
-    ensures { λ r. ⌜ r ≡ slotOr k x ⌝ }
-{
-    if k.is_key() {
-        return x;
-    }
-    free_slot()
 }
 
 // Whether the slot holds no record. A kind that is none's counts as free; no image that was read has one.

@@ -5,7 +5,7 @@ ghost use lib.ListN.{length};
 ghost use mathlib.Core.Bool.{true, _&&_};
 ghost use Rattle.images.specs.Head.{partAt};
 ghost use Rattle.images.specs.Script.{rowOf, nodeInPlace, targetInPlace, referenceInPlace, fieldInRange, isBlank, countInPlace, fieldInPlace, fieldsInPlace, sameFormal, freshFormal, formalsDistinct, placesInRow, fieldsInRow, actionInRange};
-ghost use Rattle.images.specs.Read.{fieldOf, actionOf, actionFormed, nodesFormed, scriptOf, scriptFormed, nilAction, nodeIndex, nodeOr, nodeWith, badScript, readScript};
+ghost use Rattle.images.specs.Read.{fieldOf, actionOf, actionFormed, nodesFormed, scriptOf, scriptFormed, nilAction, nodeWith, badScript, readScript};
 use super::Action;
 use super::Field;
 use super::Form;
@@ -372,26 +372,6 @@ fn nil() -> Action
         count: 0,
         fields: [Field { tag: 0, number: 0 }; Field::COUNT],
     }
-}
-
-// Where the node of this number stands among the nodes; some place where there is no such node.
-pub fn node_index(k: Node) -> usize
-    ensures { λ r. ⌜ r ≡ nodeIndex k ⌝ }
-{
-    if k.is_node() {
-        return k.0 as usize;
-    }
-    0
-}
-
-// The node that was found for this number; where there is no such node, nil.
-pub fn node_or_nil(k: Node, a: Action) -> Action
-    ensures { λ r. ⌜ r ≡ nodeOr k a ⌝ }
-{
-    if k.is_node() {
-        return a;
-    }
-    nil()
 }
 
 // The node of this number in an image; where there is no such node, nil.

@@ -1,7 +1,7 @@
 -- The code of a call against its definition: what each part of it knows.
 -- In order: which verdict accepts (`accepts`); what a contract says of a reply (`Replies`); a request that is read is in range (`read-in-range`), one that is
 -- not is refused (`request-bad`), one that is read is served (`request-good`); reading answers only what is in range (`script-range`, `net-range`); the verdict
--- is acceptance (`accepts-tested`), so the answer is the definition's (`image-no-script`, `image-no-net`, `image-sizes`, `image-by`, `taken-is`); images whose
+-- is acceptance (`accepts-tested`), so the answer is the definition's (`image-no-script`, `image-no-net`, `image-sizes`, `image-by`); images whose
 -- answer is done are good (`images-good`, `good-images`); a call on good images (`good-replies`), and any call (`call-refused`, `answer-good`).
 -- Assumes nothing.
 use Prim.Native.Nat.{ℕ}
@@ -44,7 +44,7 @@ use Rattle.requests.specs.declared.Answer.{Answer}
 use Rattle.requests.specs.declared.Answer.the-variants as Answer
 use Rattle.requests.specs.declared.Told.{Told}
 use Rattle.rollback.specs.Rollback.{Good}
-use Rattle.machine.specs.Calls.{isGood, scriptIn, netIn, goodScript, goodNet, imageAnswer, takenApart, GoodImages, served, Reply, told, refusal, afterwards, replyTo, reply}
+use Rattle.machine.specs.Calls.{isGood, scriptIn, netIn, goodScript, goodNet, imageAnswer, GoodImages, served, Reply, told, refusal, afterwards, replyTo, reply}
 
 abbrev pub accepts : Verdict → Bool
 accepts Verdict.Accepted = true
@@ -191,10 +191,6 @@ module _ (S N : List ℕ) where
         by-net b
         ((λ i. isGood (read-net i .form) && isAccepted (read-script i .script) (view (read-script i .script) (read-net i .net))) ∙
         sym (is-b ∙ ap accepts is-v ∙ accepts-tested (scriptOf S) (netOf N) shaped (formed-net-range N g)))
-
-pub taken-is : (script net : List ℕ) (a : Answer) → a ≡ imageAnswer script net → (sr : ScriptRead) → sr ≡ readScript script → (nr : NetRead) → nr ≡ readNet net
-    → record { answer = a; script = sr .script; net = nr .net } ≡ takenApart script net
-taken-is script net a is-a sr is-s nr is-n = λ i. record { answer = is-a i; script = is-s i .script; net = is-n i .net }
 
 -- ---- images that are good
 

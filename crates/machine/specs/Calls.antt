@@ -1,6 +1,6 @@
 -- One call on bytes, as a customer reads it: script, net and request are any byte strings; the answer, undone and touched; and the bytes of the
 -- net after it. Document 01, "Requests and what comes back".
--- In order: the images as they are read (`scriptIn`, `netIn`) and whether they are good (`goodScript`, `goodNet`, `imageAnswer`, `takenApart`, `GoodImages`); a request on good images, by the
+-- In order: the images as they are read (`scriptIn`, `netIn`) and whether they are good (`goodScript`, `goodNet`, `imageAnswer`, `GoodImages`); a request on good images, by the
 -- theory's outcome (`served`); a reply (`Reply`), a refusal that leaves the net (`refusedWith`), the lent net after an outcome (`afterwards`); the reply to a call (`reply`).
 -- What is told of an outcome and of a refusal (`told`, `refusal`) is passed on from below.
 -- Assumes nothing.
@@ -32,7 +32,6 @@ use Rattle.requests.specs.declared.Answer.the-variants as Answer
 use Rattle.requests.specs.declared.Told.{Told}
 pub use Rattle.rollback.specs.Rollback.{told}
 use Rattle.rollback.specs.Rollback.{Outcome}
-use Rattle.machine.specs.declared.Taken.{Taken}
 
 -- ---- the images
 
@@ -56,9 +55,6 @@ goodNet s b = isGood (readNet b .form) && isAccepted s (view s (netIn b))
 
 unfoldable pub imageAnswer : List ℕ → List ℕ → Answer
 imageAnswer script net = pick (goodScript script) (pick (goodNet (scriptIn script) net) Answer.Done Answer.BadNet) Answer.BadScript
-
-abbrev pub takenApart : List ℕ → List ℕ → Taken
-takenApart script net = record { answer = imageAnswer script net; script = scriptIn script; net = netIn net }
 
 -- neither 1 nor 2 is the answer
 abbrev pub GoodImages : List ℕ → List ℕ → Type 0

@@ -7,9 +7,9 @@ pub mod Demands
 pub mod Agree
 pub mod Served
 pub mod Called
-pub mod Asked
 pub mod Written
 pub mod After
 pub mod Bytes
 pub mod Codes
 pub mod OnBytes
+pub mod Asked

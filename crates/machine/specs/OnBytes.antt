@@ -1,6 +1,6 @@
 -- A request on the lent bytes of good images: what is looked up there is what reading the images gives, and what is written there is what writing
 -- the outcome's net would leave.
--- In order: a told answer and the bytes after it, of an outcome (`Serves`); the lengths of good images (`script-size`, `net-size`), what rollback asks of
+-- In order: a told answer and the bytes after it, of an outcome (`Serves`); the lengths of good images (`script-size`, `net-size`) and what they hold (`script-of`, `net-of`), what rollback asks of
 -- them (`lent`) and leaves (`lent-after`), and the same as `Held` (`held-images`, `good-held`); a change that is refused or written (`change-refused`,
 -- `change-written`); forward and backward steps from what was looked up (`forward-refused`, `forward-written`, `backward-refused`,
 -- `backward-written`); each code of a request (`forward-serves`, `backward-serves`, `rollback-serves`, `roll-serves`).
@@ -36,14 +36,13 @@ use Rattle.requests.specs.declared.Request.{Request}
 use Rattle.requests.specs.declared.Answer.{Answer}
 use Rattle.requests.specs.declared.Answer.the-variants as Answer
 use Rattle.requests.specs.declared.Told.{Told}
-use Rattle.step.specs.Change.{refused, stepped-yes, stepped-no, applied}
+use Rattle.step.specs.Change.{Change, refused, stepped-yes, stepped-no, applied}
 use Rattle.step.specs.Tests.{noneReads, forwardTests, backwardTests}
 use Rattle.step.specs.Forward.{forwardDone, forwardChange, forwardBy}
 use Rattle.step.specs.Backward.{backwardDone, backwardChange, backwardBy}
 use Rattle.step.specs.Looked.{forward-found}
 use Rattle.step.specs.Readable.{backward-outs}
 use Rattle.step.specs.InPlace.{changeBytes, change-bytes}
-use Rattle.step.specs.declared.Change.{Change}
 use Rattle.rollback.specs.Rollback.{Good, Lent, Outcome, lentAfter, rollbackOutcome, rollOutcome}
 use Rattle.machine.specs.Calls.{isGood, scriptIn, netIn, goodScript, goodNet, imageAnswer, GoodImages, served, told, refusal, afterwards}
 use Rattle.machine.specs.Served.{steppedTo}
@@ -80,11 +79,11 @@ module _ (S N : List ℕ) (good : GoodImages S N) where
   net-size = image-sizes S N formed formed-net .1
 
   -- what was looked up is of what was read
-  script-of : scriptOf S ≡ scriptIn S
+  pub script-of : scriptOf S ≡ scriptIn S
   unfolding readScript
   script-of = sym (ap (λ (b : Bool). pick b (Read.goodScript (scriptOf S)) Read.badScript .script) formed)
 
-  net-of : netOf N ≡ netIn N
+  pub net-of : netOf N ≡ netIn N
   unfolding readNet
   net-of = sym (ap (λ (b : Bool). pick b (Read.goodNet (netOf N)) Read.badNet .net) formed-net)
 

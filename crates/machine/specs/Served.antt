@@ -37,12 +37,11 @@ use Rattle.requests.specs.Requests.{asked, isDone, answerOf}
 use Rattle.requests.specs.declared.Request.{Request}
 use Rattle.requests.specs.declared.Answer.{Answer}
 use Rattle.requests.specs.declared.Answer.the-variants as Answer
-use Rattle.step.specs.Change.{refused, stepped, applied}
+use Rattle.step.specs.Change.{Change, refused, stepped, applied}
 use Rattle.step.specs.Forward.{forwardAnswer, forwardDone, forwardChange}
 use Rattle.step.specs.Backward.{backwardAnswer, backwardDone, undoneAt, backwardChange}
 use Rattle.step.specs.Laws.{done-number, done-zero, refused-stays, forward-done, forward-gives, forward-stays}
 use Rattle.step.specs.Undone.{undo-is, undo-touched}
-use Rattle.step.specs.declared.Change.{Change}
 use Rattle.ranges.specs.Forward.{forward-in-range, forward-shaped}
 use Rattle.ranges.specs.Backward.{accepted-taken, undone-in-range, undone-shaped}
 use Rattle.rollback.specs.Rollback.{Good, Outcome, outcomeBy, undoneAll, rollbackAnswer, rollbackOutcome, rollAnswer, rollOutcome}

@@ -1,9 +1,10 @@
 // Questions on bytes that change nothing: the finder, the least free key and the least absent locality. The images are checked as for a call.
 ghost use mathlib.Core.Path.{_≡_};
 ghost use Rattle.machine.specs.Asks.{foundIn, freeKeyIn, freeLocalityIn};
-use super::take_apart;
+use super::image_answer;
 use finder::Found;
 use finder::absent_locality;
+use images::net_image::present_in;
 use names::Key;
 use names::Locality;
 use requests::Answer;
@@ -20,32 +21,27 @@ pub struct FoundLocality {
 pub fn find(script: &[u8], net: &[u8], key: u8) -> Found
     ensures { λ r. ⌜ r ≡ foundIn (now (script .entry)) (now (net .entry)) key ⌝ }
 {
-    let taken = take_apart(script, net);
-    let answer = taken.answer;
+    let answer = image_answer(script, net);
     let Check::Holds = all_hold(answer) else {
         return Found {
             answer,
             key: Key::NONE,
         };
     };
-    let s = taken.script;
-    let n = taken.net;
-    finder::find(s, n, Key(key))
+    finder::find(script, net, Key(key))
 }
 
 pub fn free_key(script: &[u8], net: &[u8]) -> Found
     ensures { λ r. ⌜ r ≡ freeKeyIn (now (script .entry)) (now (net .entry)) ⌝ }
 {
-    let taken = take_apart(script, net);
-    let answer = taken.answer;
+    let answer = image_answer(script, net);
     let Check::Holds = all_hold(answer) else {
         return Found {
             answer,
             key: Key::NONE,
         };
     };
-    let n = taken.net;
-    let key = finder::free_key(n);
+    let key = finder::free_key(net);
     Found {
         answer: Answer::Done,
         key,
@@ -55,16 +51,14 @@ pub fn free_key(script: &[u8], net: &[u8]) -> Found
 pub fn free_locality(script: &[u8], net: &[u8]) -> FoundLocality
     ensures { λ r. ⌜ r ≡ freeLocalityIn (now (script .entry)) (now (net .entry)) ⌝ }
 {
-    let taken = take_apart(script, net);
-    let answer = taken.answer;
+    let answer = image_answer(script, net);
     let Check::Holds = all_hold(answer) else {
         return FoundLocality {
             answer,
             locality: Locality::NONE,
         };
     };
-    let n = taken.net;
-    let present = n.present;
+    let present = present_in(net);
     let locality = absent_locality(present);
     FoundLocality {
         answer: Answer::Done,

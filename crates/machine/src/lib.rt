@@ -5,15 +5,11 @@ ghost use mathlib.Core.Bool.{true, false};
 ghost use lib.Dec.{eqb};
 ghost use Rattle.requests.specs.Answers.{inRange};
 ghost use Rattle.requests.specs.Requests.{asked};
-ghost use Rattle.machine.specs.Calls.{scriptIn, netIn, imageAnswer, takenApart, GoodImages, served, told, afterwards, reply};
+ghost use Rattle.machine.specs.Calls.{scriptIn, netIn, imageAnswer, GoodImages, served, told, afterwards, reply};
 ghost use Rattle.machine.specs.Called.{accepts};
 use accept::Verdict;
 use accept::accept;
-use images::Net;
-use images::Script;
 use images::net_image::net_formed;
-use images::net_image::read_net;
-use images::script_image::read_script;
 use images::script_image::script_formed;
 use requests::Answer;
 use requests::Request;
@@ -30,13 +26,6 @@ use steps::forward_on;
 
 pub mod asks;
 pub mod steps;
-
-// Both images taken apart, and whether they are good: 1, 2, or done. What is taken apart without its form holds nothing.
-pub struct Taken {
-    pub answer: Answer,
-    pub script: Script,
-    pub net: Net,
-}
 
 // ---- the images
 
@@ -69,22 +58,6 @@ pub fn image_answer(script: &[u8], net: &[u8]) -> Answer
         return Answer::BadNet;
     }
     Answer::Done
-}
-
-// The answer of the images, and what they hold.
-pub fn take_apart(script: &[u8], net: &[u8]) -> Taken
-    ensures { λ r. ⌜ r ≡ takenApart (now (script .entry)) (now (net .entry)) ⌝ }
-{
-    let answer = image_answer(script, net);
-    let of_script = read_script(script);
-    let of_net = read_net(net);
-    let s = of_script.script;
-    let n = of_net.net;
-    Taken {
-        answer,
-        script: s,
-        net: n,
-    }
 }
 
 // ---- a request on good images

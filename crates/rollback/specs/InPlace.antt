@@ -35,11 +35,10 @@ use Rattle.requests.specs.declared.Answer.{Answer}
 use Rattle.requests.specs.declared.Told.{Told}
 use Rattle.cycles.specs.Cycles.{members}
 use Rattle.dependents.specs.Marks.{lastOf}
-use Rattle.step.specs.Change.{refused, stepped, applied}
+use Rattle.step.specs.Change.{Change, refused, stepped, applied}
 use Rattle.step.specs.Tests.{backwardTests}
 use Rattle.step.specs.Backward.{backwardDone, backwardBy, undoing, undoneBy}
 use Rattle.step.specs.InPlace.{putBytes, changeBytes, change-bytes, slot-kept, present-kept}
-use Rattle.step.specs.declared.Change.{Change}
 use Rattle.rollback.specs.Rollback.{Outcome, told, Gives, done, toldDone, undoneAll}
 use Rattle.rollback.specs.Undone.{Asked, Rolling, rolling-first, rolling-may, rolling-next, rolling-done, rolling-last}
 

@@ -54,14 +54,13 @@ use Rattle.traces.specs.Traced.{placed-used, event-in, edges-depend}
 use Rattle.dependents.specs.Marks.{markAt, marked, dependentMarks, lastOf}
 use Rattle.dependents.specs.Lasts.{last-there, last-none}
 use Rattle.dependents.specs.declared.Marks.{Marks}
-use Rattle.step.specs.Change.{applied}
+use Rattle.step.specs.Change.{Change, applied}
 use Rattle.step.specs.Backward.{backwardChange, undoneBy}
 use Rattle.step.specs.Looked.{backward-found}
 use Rattle.requests.specs.Requests.{isDone}
 use Rattle.step.specs.Tests.{noneReads}
 use Rattle.step.specs.Laws.{Undoes, undo-promised, unread-undoable}
 use Rattle.step.specs.Backward as Step
-use Rattle.step.specs.declared.Change.{Change}
 use Rattle.ranges.specs.Backward.{accepted-taken, backward-in-range, backward-shaped}
 use Rattle.rollback.specs.Rollback.{Good, done, undoneAll}
 use Rattle.rollback.specs.Turns.{Turns, turns-first, turns-accepted, turns-undoable, turns-next, turns-touched, turns-count, turns-end, turns-all-touched}

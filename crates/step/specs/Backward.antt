@@ -2,10 +2,9 @@
 -- again, and it is live as before".
 -- In order: the third slot that changes (`backwardOther`); the localities (`presentBefore`); those touched (`freedAt`); a step that is done
 -- (`backwardDone`); any step (`backwardChange`), and the same from the slots that the event names (`backwardBy`); the request that undoes an
--- event (`undoing`, `undoneBy`, `undone-by`).
+-- event (`undoing`, `undoneBy`).
 -- Assumes nothing.
 use Prim.Native.Nat.{ℕ}
-use mathlib.Core.Path.{_≡_, ap, _∙_}
 use mathlib.Core.Bool.{Bool, _&&_}
 use Rattle.laws.specs.Choice.{pick}
 use Rattle.names.specs.Names.{none, key, locality, isKey, isLocality}
@@ -29,10 +28,9 @@ use Rattle.requests.specs.Requests.{asked, answerOf}
 use Rattle.requests.specs.declared.Request.{Request}
 use Rattle.requests.specs.declared.Answer.{Answer}
 use Rattle.requests.specs.declared.Answer.the-variants as Answer
-use Rattle.step.specs.Change.{put, nowhere, stepped}
+use Rattle.step.specs.Change.{Change, put, nowhere, stepped}
 use Rattle.step.specs.Tests.{backwardTests}
 use Rattle.step.specs.declared.Put.{Put}
-use Rattle.step.specs.declared.Change.{Change}
 
 -- the second thing made becomes free, or the tuple that an in took is live again
 unfoldable pub backwardOther : Action → Slot → Slot → Put
@@ -85,8 +83,3 @@ undoing k = record { code = 1; key = k; used = key none; first = key none; secon
 
 abbrev pub undoneBy : Action → Slot → Slot → Slot → Slot → Bool → Localities → Key → Change
 undoneBy a x first second t unread present k = backwardBy a x first second t unread present (undoing k)
-
--- from the request that the code made
-pub undone-by : (a : Action) (x first second t : Slot) (unread : Bool) (present : Localities) (k : Key) (r : Request) → r ≡ undoing k
-    → (c : Change) → c ≡ backwardBy a x first second t unread present r → c ≡ undoneBy a x first second t unread present k
-undone-by a x first second t unread present k r is-r c e = e ∙ ap (backwardBy a x first second t unread present) is-r

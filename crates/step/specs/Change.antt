@@ -1,7 +1,8 @@
 -- What a step changes, and the net once that is written.
--- In order: a slot at a key (`put`) or none (`nowhere`); a refusal (`refused`); a step by its answer (`stepped`, `stepped-yes`, `stepped-no`); a
--- change written (`putIn`, `applied`).
+-- In order: a change (`Change`); a slot at a key (`put`) or none (`nowhere`); a refusal (`refused`); a step by its answer (`stepped`,
+-- `stepped-yes`, `stepped-no`); a change written (`putIn`, `applied`).
 -- Assumes nothing.
+use Prim.Native.Nat.{ℕ}
 use mathlib.Core.Path.{_≡_, ap, sym, _∙_}
 use mathlib.Core.Bool.{true, false}
 use lib.ListN.{set}
@@ -16,7 +17,17 @@ use Rattle.images.specs.declared.Net.{Net}
 use Rattle.requests.specs.Requests.{isDone}
 use Rattle.requests.specs.declared.Answer.{Answer}
 use Rattle.step.specs.declared.Put.{Put}
-use Rattle.step.specs.declared.Change.{Change}
+
+-- what a step answers and changes: how many events were undone, the localities at which a slot became free, the three slots that may change
+-- (the process itself, what is at its first key, and one more), and the localities that are then present
+pub record Change : Type 0 where
+  pub answer : Answer
+  pub undone : ℕ
+  pub touched : Localities
+  pub event : Put
+  pub first : Put
+  pub other : Put
+  pub present : Localities
 
 abbrev pub put : Key → Slot → Put
 put k x = record { key = k; slot = x }

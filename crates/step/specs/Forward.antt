@@ -26,10 +26,9 @@ use Rattle.requests.specs.Requests.{asked, answerOf}
 use Rattle.requests.specs.declared.Request.{Request}
 use Rattle.requests.specs.declared.Answer.{Answer}
 use Rattle.requests.specs.declared.Answer.the-variants as Answer
-use Rattle.step.specs.Change.{put, nowhere, stepped}
+use Rattle.step.specs.Change.{Change, put, nowhere, stepped}
 use Rattle.step.specs.Tests.{forwardTests}
 use Rattle.step.specs.declared.Put.{Put}
-use Rattle.step.specs.declared.Change.{Change}
 
 -- "The process becomes past and keeps its contents": with the keys it made, the tuple it used and the locality it made
 abbrev pub pastSlot : Slot → Request → Slot

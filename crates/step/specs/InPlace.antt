@@ -1,35 +1,29 @@
 -- A change written in place, put after put into the bytes of a net: what it leaves are the bytes of the net once the change is written.
 -- In order: the bytes after a change (`changeBytes`); of a net's bytes (`put-bytes`, `change-bytes`); they stay as many (`slot-kept`,
--- `present-kept`); what a forward and a backward step write (`forward-written`, `backward-written`), and what it frees (`freed-both`); the kind of
--- a slot and the tuple that it used, as they stand in the bytes (`kind-byte`, `used-byte`).
+-- `present-kept`); what a forward and a backward step write (`forward-written`, `backward-written`), and what it frees (`freed-both`).
 -- Assumes nothing.
-use Prim.Native.Nat.{ℕ, _+_, _*_, _<_}
-use mathlib.Core.Path.{_≡_, refl, ap, sym, _∙_}
+use Prim.Native.Nat.{ℕ}
+use mathlib.Core.Path.{_≡_, refl, ap, _∙_}
 use mathlib.Core.List.{List}
-use native.Mathlib.Omega.{arith}
-use lib.ListN.{length, getD, take, drop}
-use lib.Seq.{getD-take, getD-drop}
+use lib.ListN.{length}
 use Rattle.laws.specs.Choice.{cases}
-use Rattle.names.specs.Names.{keyCount, key, isKey}
+use Rattle.names.specs.Names.{keyCount, isKey}
 use Rattle.names.specs.Localities.{localities}
 use Rattle.names.specs.declared.Key.{Key}
 use Rattle.names.specs.declared.Localities.{Localities}
-use Rattle.images.specs.Head.{byte, partAt}
-use Rattle.images.specs.Net.{freeSlot, slotAt, netBytes}
-use Rattle.images.specs.Read.{slotOf, netOf}
-use Rattle.images.specs.InPlace.{slot-part, slotPut, presentPut, length-slot-put, length-present-put, slot-put-net, present-put-net}
+use Rattle.images.specs.Net.{freeSlot, netBytes}
+use Rattle.images.specs.InPlace.{slotPut, presentPut, length-slot-put, length-present-put, slot-put-net, present-put-net}
 use Rattle.images.specs.declared.Action.{Action}
 use Rattle.images.specs.declared.Slot.{Slot}
 use Rattle.images.specs.declared.Net.{Net}
 use Rattle.products.specs.Body.{bodyOf, liveProcess}
 use Rattle.products.specs.Products.{continuedBy}
 use Rattle.requests.specs.declared.Request.{Request}
-use Rattle.step.specs.Change.{putIn, applied}
+use Rattle.step.specs.Change.{Change, putIn, applied}
 use Rattle.step.specs.Forward.{pastSlot, forwardOther, presentAfter, forwardDone}
 use Rattle.step.specs.Backward.{backwardOther, presentBefore, freedAt, backwardDone}
 use Rattle.step.specs.Written.{put-length}
 use Rattle.step.specs.declared.Put.{Put}
-use Rattle.step.specs.declared.Change.{Change}
 
 -- ---- a change
 
@@ -91,20 +85,3 @@ pub freed-both : (a : Action) (x first second t : Slot) (present : Localities) (
     → both ≡ freedAt one (x .second) second → both ≡ backwardDone a x first second t present k .touched
 unfolding backwardDone
 freed-both a x first second t present k one both e f = f ∙ ap (λ (z : Localities). freedAt z (x .second) second) e
-
--- ---- bytes of a slot
-
--- byte j of slot i
-part-byte : (b : List ℕ) (i j : ℕ) → j < 56 → byte b (16 + 56 * i + j) ≡ byte (partAt 56 b i) j
-part-byte b i j l = sym (getD-take 56 (drop (16 + 56 * i) b) j 0 l ∙ getD-drop (16 + 56 * i) b j 0)
-
-pub kind-byte : (b : List ℕ) (i : ℕ) → i < keyCount → byte b (16 + 56 * i) ≡ slotAt (netOf b) i .kind
-unfolding slotOf
-kind-byte b i l =
-    ap (byte b) (omega arith) ∙ part-byte b i 0 (omega arith) ∙ ap (λ (x : Slot). x .kind) (slot-part b i l)
-
-pub used-byte : (b : List ℕ) (i : ℕ) → i < keyCount → key (byte b (21 + 56 * i)) ≡ slotAt (netOf b) i .used
-unfolding slotOf
-used-byte b i l =
-    let at : 21 + 56 * i ≡ 16 + 56 * i + 5 = omega arith in
-    ap key (ap (byte b) at ∙ part-byte b i 5 (omega arith)) ∙ ap (λ (x : Slot). x .used) (slot-part b i l)

@@ -1,11 +1,11 @@
 -- What a step promises, in the words of the theory alone: nothing of how the code finds out shows through.
 -- In order: a refusal changes nothing (`refused-stays`); a forward step is done exactly when its rule allows it (`forward-done`), and gives the
--- net that the rule gives (`forward-gives`); a backward step of an accepted net, by the undoing of its event (`Undoes`, `undo-promised`), also
--- from looked-up slots, of an event that may be undone (`undo-by-promised`, `undo-by-found`).
+-- net that the rule gives (`forward-gives`); a backward step of an accepted net, by the undoing of its event (`Undoes`, `undo-promised`); what
+-- an event made that may be undone was not read (`unread-undoable`).
 -- Document 01's row of each refusal is in `requests` (`Checks`, `refused-iff`).
 -- Assumes nothing.
 use Prim.Native.Nat.{ℕ, zero, suc, _<_}
-use mathlib.Core.Path.{_≡_, refl, ap, sym, _∙_, subst}
+use mathlib.Core.Path.{_≡_, refl, ap, sym, _∙_}
 use mathlib.Core.Logic.{_↔_}
 use mathlib.Core.Bool.{Bool, true, false, _&&_}
 use lib.Dec.{eqb}
@@ -22,10 +22,7 @@ use Rattle.names.specs.declared.Localities.{Localities}
 use Rattle.images.specs.Script.{scriptInRange}
 use Rattle.images.specs.Shape.{ShapedScript}
 use Rattle.images.specs.Net.{slotWith}
-use Rattle.images.specs.Read.{nodeWith}
-use Rattle.images.specs.declared.Action.{Action}
 use Rattle.images.specs.declared.Script.{Script}
-use Rattle.images.specs.declared.Slot.{Slot}
 use Rattle.images.specs.declared.Net as Images
 use Rattle.nets.specs.Net.{events}
 use Rattle.nets.specs.Accepted.{Accepted}
@@ -40,16 +37,14 @@ use Rattle.requests.specs.Requests.{asked, isDone, number, answerOf}
 use Rattle.requests.specs.declared.Request.{Request}
 use Rattle.requests.specs.declared.Answer.{Answer}
 use Rattle.requests.specs.declared.Answer.the-variants as Answer
-use Rattle.step.specs.Change.{refused, stepped, putIn, applied}
+use Rattle.step.specs.Change.{Change, refused, stepped, putIn, applied}
 use Rattle.step.specs.Forward.{forwardAnswer, forwardDone, forwardChange}
-use Rattle.step.specs.Backward.{backwardAnswer, backwardDone, undoneAt, backwardChange, undoneBy}
+use Rattle.step.specs.Backward.{backwardAnswer, backwardDone, undoneAt, backwardChange}
 pub use Rattle.step.specs.Backward.{undoing}
 use Rattle.step.specs.Tests.{noneReads}
-use Rattle.step.specs.TestedBackward.{unread-then, backward-looked}
-use Rattle.step.specs.Looked.{backward-found}
+use Rattle.step.specs.TestedBackward.{unread-then}
 use Rattle.step.specs.Steps.{forward-is}
 use Rattle.step.specs.Undone.{undo-is, undo-touched, undo-undone}
-use Rattle.step.specs.declared.Change.{Change}
 
 -- ---- a refusal
 
@@ -161,16 +156,3 @@ module _ (s : Script) (w : ShapedScript s) (in-form : scriptInRange s ≡ true) 
   pub unread-undoable : Undoable (view s n) (k .0) → (noneReads s n (slotWith n k .first) && noneReads s n (slotWith n k .second)) ≡ true
   unread-undoable u =
       unread-then s (w .nodes) n r (u .is-past) (can-undo (rolledBy s) refl (view s n) ok (asked r) u)
-
-  -- so whoever knows that it may be undone need not look for readers
-  pub undo-by-promised : Undoable (view s n) (k .0) → Undoes s n k (undoneBy (nodeWith s (slotWith n k .node)) (slotWith n k) (slotWith n (slotWith n k .first)) (slotWith n (slotWith n k .second)) (slotWith n (slotWith n k .used)) true (n .present) k)
-  undo-by-promised u =
-      subst (λ (c : Change). Undoes s n k c) (sym (backward-looked s (w .nodes) n r true (sym (unread-undoable u)))) undo-promised
-
-  -- the same from what was looked up
-  pub undo-by-found : (x : Slot) (a : Action) (f g t : Slot) → x ≡ slotWith n k → a ≡ nodeWith s (x .node) → f ≡ slotWith n (x .first) → g ≡ slotWith n (x .second) → t ≡ slotWith n (x .used)
-      → (c : Change) → c ≡ undoneBy a x f g t true (n .present) k → Undoable (view s n) (k .0) → Undoes s n k c
-  undo-by-found x a f g t is-x is-a is-f is-g is-t c e u =
-      let none : (noneReads s n (x .first) && noneReads s n (x .second)) ≡ true = ap (λ (z : Slot). noneReads s n (z .first) && noneReads s n (z .second)) is-x ∙ unread-undoable u in
-      subst (λ (o : Change). Undoes s n k o)
-      (sym (backward-found s (w .nodes) n r x a f g t true is-x is-a is-f is-g is-t (sym none) c e)) undo-promised

@@ -38,7 +38,7 @@ use Rattle.step.specs.Tested.{kind-is}
 use Rattle.step.specs.TestedBackward.{unread-is}
 use Rattle.step.specs.Backward.{backwardChange, backwardBy}
 use Rattle.step.specs.Looked.{backward-found}
-use Rattle.step.specs.declared.Change.{Change}
+use Rattle.step.specs.Change.{Change}
 
 -- ---- in the theory
 

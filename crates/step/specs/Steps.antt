@@ -44,11 +44,10 @@ use Rattle.requests.specs.Answers.{Request, inRange, places, forwardChecks}
 use Rattle.requests.specs.Laws.{forward-can}
 use Rattle.requests.specs.Requests.{asked}
 use Rattle.requests.specs.declared.Request as Code
-use Rattle.step.specs.Change.{applied}
+use Rattle.step.specs.Change.{Change, applied}
 use Rattle.step.specs.Tested.{node-is, no-node}
 use Rattle.step.specs.Forward.{pastSlot, forwardOther, presentAfter, forwardDone}
 use Rattle.step.specs.Written.{isAt, applied-slot, applied-present, joined-view, eqb-swap}
-use Rattle.step.specs.declared.Change.{Change}
 
 module _ (s : Script) (nodes : length (s .nodes) ≡ nodeCount) (n : Images.Net) (whole : length (n .slots) ≡ keyCount)
     (r : Code.Request) (range : inRange (asked r) ≡ true) (holds : refusal (forwardChecks (rolledBy s) (view s n) (asked r)) ≡ 0) where

@@ -12,9 +12,8 @@ use native.Mathlib.Omega.{arith}
 use lib.Dec.{eqb, ltb}
 use Rattle.laws.specs.Choice.{pick, _⇒_}
 use Rattle.laws.specs.Checks.{all}
-use Rattle.names.specs.Names.{keyCount, locality, isKey, isNode}
+use Rattle.names.specs.Names.{keyCount, locality, isKey}
 use Rattle.names.specs.declared.Key.{Key}
-use Rattle.names.specs.declared.Node.{Node}
 use Rattle.names.specs.Localities.{holds}
 use Rattle.names.specs.declared.Locality.{Locality}
 use Rattle.names.specs.declared.Localities.{Localities}
@@ -102,10 +101,6 @@ backwardTests a x first second t unread r =
 -- the key is the one or the other
 unfoldable pub isEither : Key → Key → Key → Bool
 isEither k one two = isKey k && (eqb (k .0) (one .0) || eqb (k .0) (two .0))
-
--- there is such a node, and it reads; act is the kind of what stands at its place
-unfoldable pub readsAt : Node → ℕ → Bool
-readsAt p act = isNode p && isRead act
 
 unfoldable pub readsEither : Script → Slot → Key → Key → Bool
 readsEither s x one two = eqb (x .kind) 2 && (isEither (x .used) one two && isRead (nodeWith s (x .node) .kind))

@@ -46,11 +46,10 @@ use Rattle.rules.specs.Instance.{actOf, makeable, rulesOf, lawfulOf}
 use Rattle.rules.specs.Acts
 use Rattle.rules.specs.Acts.{take-is, newloc-is, there-is}
 use Rattle.rules.specs.View.{view, slotView, view-with, view-present, free-view, kindAs}
-use Rattle.step.specs.Change.{applied}
+use Rattle.step.specs.Change.{Change, applied}
 use Rattle.step.specs.Tested.{node-is, no-node}
 use Rattle.step.specs.Backward.{backwardOther, presentBefore, freedAt, backwardDone, undoneAt}
 use Rattle.step.specs.Written.{isAt, applied-slot, applied-present, parted-view, eqb-swap}
-use Rattle.step.specs.declared.Change.{Change}
 
 module _ (s : Script) (w : ShapedScript s) (in-form : scriptInRange s ≡ true) (n : Images.Net) (whole : length (n .slots) ≡ keyCount)
     (ok : Accepted (view s n)) (k : Key) (u : Undoable (view s n) (k .0)) where

@@ -1,31 +1,23 @@
 -- One pass over the slots finds whether a past read used either of two keys.
--- In order: a node that reads, from the place that was looked up (`reads-looked`); one slot, by what the pass looks at (`no-event`, `neither`,
--- `reads-no`, `reads-yes`, `by-node-no`, `by-node-yes`), and by the two keys apart (`either-one`, `either-two`, `either-none`); all slots (`unread-both`).
+-- In order: one slot, by what the pass looks at (`no-event`, `neither`, `reads-no`, `reads-yes`), and by the two keys apart (`either-one`,
+-- `either-two`, `either-none`); all slots (`unread-both`).
 -- Assumes nothing.
 use Prim.Native.Nat.{ℕ}
-use mathlib.Core.Path.{_≡_, ap, sym, _∙_, subst}
+use mathlib.Core.Path.{_≡_, ap, sym, subst}
 use mathlib.Core.Bool.{Bool, true, false, _&&_, not}
 use lib.Dec.{eqb, ltb}
 use borrow.Author.Tests.{eqb-true, not-true}
 use Rattle.laws.specs.Choice.{cases, clash, fails, agree, and-left, and-right, and-both, or-left, or-right, or-cases, _⇒_, told, tells}
 use Rattle.laws.specs.Checks.{all, all-of, all-at}
-use Rattle.names.specs.Names.{keyCount, isKey, isNode}
+use Rattle.names.specs.Names.{keyCount, isKey}
 use Rattle.names.specs.declared.Key.{Key}
-use Rattle.names.specs.declared.Node.{Node}
-use Rattle.images.specs.Script.{actionAt}
 use Rattle.images.specs.Net.{slotAt}
-use Rattle.images.specs.Read.{nodeIndex, nodeWith}
+use Rattle.images.specs.Read.{nodeWith}
 use Rattle.images.specs.declared.Script.{Script}
 use Rattle.images.specs.declared.Slot.{Slot}
 use Rattle.images.specs.declared.Net.{Net}
 use Rattle.products.specs.Products.{isRead}
-use Rattle.step.specs.Tests.{readsKey, noneReads, isEither, readsAt, readsEither}
-
--- a node that is none reads nothing
-pub reads-looked : (s : Script) (k : Node) (p : ℕ) → p ≡ nodeIndex k → readsAt k (actionAt s p .kind) ≡ isRead (nodeWith s k .kind)
-unfolding readsAt
-reads-looked s k p e =
-    ap (λ (i : ℕ). isNode k && isRead (actionAt s i .kind)) e ∙ cases (isNode k) (λ t. rw t) (λ t. rw t)
+use Rattle.step.specs.Tests.{readsKey, noneReads, isEither, readsEither}
 
 -- ---- one slot
 
@@ -48,17 +40,6 @@ module _ (s : Script) (x : Slot) (one two : Key) where
   pub reads-yes : eqb (x .kind) 2 ≡ true → isEither (x .used) one two ≡ true → isRead (nodeWith s (x .node) .kind) ≡ true → not (readsEither s x one two) ≡ false
   unfolding readsEither
   reads-yes past used h = ap not (and-both (eqb (x .kind) 2) _ past (and-both (isEither (x .used) one two) _ used h))
-
-  -- the node at the place that was looked up
-  module _ (p : ℕ) (is-p : p ≡ nodeIndex (x .node)) (b : Bool) (is-b : b ≡ readsAt (x .node) (actionAt s p .kind)) where
-    the-node : b ≡ isRead (nodeWith s (x .node) .kind)
-    the-node = is-b ∙ reads-looked s (x .node) p is-p
-
-    pub by-node-no : b ≡ false → not (readsEither s x one two) ≡ true
-    by-node-no h = reads-no (sym the-node ∙ h)
-
-    pub by-node-yes : eqb (x .kind) 2 ≡ true → isEither (x .used) one two ≡ true → b ≡ true → not (readsEither s x one two) ≡ false
-    by-node-yes past used h = reads-yes past used (sym the-node ∙ h)
 
   -- ---- of either key: of the one or of the other
 

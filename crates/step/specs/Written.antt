@@ -24,9 +24,8 @@ use Rattle.images.specs.declared.Net as Images
 use Rattle.nets.specs.Net as N
 use Rattle.rules.specs.Instance.{rulesOf}
 use Rattle.rules.specs.View.{view, slotView, view-slot, beyond}
-use Rattle.step.specs.Change.{putIn, applied}
+use Rattle.step.specs.Change.{Change, putIn, applied}
 use Rattle.step.specs.declared.Put.{Put}
-use Rattle.step.specs.declared.Change.{Change}
 
 -- the slot is put at this key
 abbrev pub isAt : Put → ℕ → Bool

@@ -3,7 +3,6 @@ ghost use mathlib.Core.Path.{_≡_};
 ghost use lib.Dec.{eqb};
 ghost use Rattle.requests.specs.Answers.{asNeeded, noPlaces};
 ghost use Rattle.products.specs.Products.{isStep, targetThere};
-ghost use Rattle.laws.specs.Choice.{_⇒_};
 ghost use Rattle.requests.specs.Requests.{asked, isDone};
 ghost use Rattle.step.specs.Tests.{checked, placesBy, tupleThere, templateMet, secondFresh, placeFresh, namesFresh};
 use super::Check;

@@ -3,13 +3,11 @@ ghost use mathlib.Core.Path.{_≡_};
 ghost use Rattle.requests.specs.Checks.{refusal};
 ghost use Rattle.requests.specs.Requests.{answerOf};
 ghost use Rattle.step.specs.Tests.{forwardTests};
-ghost use Rattle.step.specs.Forward.{pastSlot, forwardOther, presentAfter, forwardDone, forwardChange, forwardBy};
-use super::Change;
+ghost use Rattle.step.specs.Forward.{pastSlot, forwardOther, presentAfter};
 use super::Check;
 use super::Put;
 use super::as_new;
 use super::checks::acts;
-use super::checks::all_hold;
 use super::checks::is_live;
 use super::checks::names_fresh;
 use super::checks::places_given;
@@ -17,19 +15,11 @@ use super::checks::target_present;
 use super::checks::template_met;
 use super::checks::tuple_there;
 use super::nowhere;
-use super::refused;
 use images::Action;
-use images::Net;
-use images::Script;
 use images::Slot;
-use images::net_image::index_of;
-use images::net_image::slot_or_free;
-use images::script_image::node_index;
-use images::script_image::node_or_nil;
 use names::Localities;
 use names::Locality;
 use products::Readiness;
-use products::continuation;
 use products::evaluable;
 use products::makes_second;
 use products::second_made;
@@ -131,79 +121,4 @@ pub fn present_after(kind: u8, present: Localities, l: Locality) -> Localities
         return present;
     }
     present.with(l)
-}
-
-fn forward_done(a: Action, x: Slot, t: Slot, present: Localities, r: Request) -> Change
-    ensures { λ o. ⌜ o ≡ forwardDone a x t present r ⌝ }
-{
-    let key = r.key;
-    let slot = past_slot(x, r);
-    let event = Put { key, slot };
-    let fields = t.contents;
-    let place = r.place;
-    let next = continuation(a, key, x, fields, place);
-    let at = r.first;
-    let first = Put {
-        key: at,
-        slot: next,
-    };
-    let other = forward_other(a, x, t, r);
-    let after = present_after(a.kind, present, place);
-    Change {
-        answer: Answer::Done,
-        undone: 0,
-        touched: Localities::EMPTY,
-        event,
-        first,
-        other,
-        present: after,
-    }
-}
-
-// The step of the process x at its node a, with what is at the keys that the request uses and makes: whoever holds a net looks these up, since
-// a net that is passed on is copied.
-pub fn forward_by(
-    a: Action,
-    x: Slot,
-    t: Slot,
-    first: Slot,
-    second: Slot,
-    present: Localities,
-    r: Request,
-) -> Change
-    ensures { λ o. ⌜ o ≡ forwardBy a x t first second present r ⌝ }
-{
-    let answer = forward_answer(a, x, t, first, second, present, r);
-    let Check::Holds = all_hold(answer) else {
-        return refused(present, answer);
-    };
-    forward_done(a, x, t, present, r)
-}
-
-// Any script, net and request in range: document 01's answer from check 4 on, and what the step changes.
-pub fn forward(s: Script, n: Net, r: Request) -> Change
-    ensures { λ o. ⌜ o ≡ forwardChange s n r ⌝ }
-{
-    let key = r.key;
-    let i = index_of(key);
-    let at_key = n.slots[i];
-    let x = slot_or_free(key, at_key);
-    let node = x.node;
-    let p = node_index(node);
-    let action = s.nodes[p];
-    let a = node_or_nil(node, action);
-    let used = r.used;
-    let u = index_of(used);
-    let at_used = n.slots[u];
-    let t = slot_or_free(used, at_used);
-    let one = r.first;
-    let f = index_of(one);
-    let at_first = n.slots[f];
-    let first = slot_or_free(one, at_first);
-    let two = r.second;
-    let g = index_of(two);
-    let at_second = n.slots[g];
-    let second = slot_or_free(two, at_second);
-    let present = n.present;
-    forward_by(a, x, t, first, second, present, r)
 }

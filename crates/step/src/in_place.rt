@@ -1,9 +1,7 @@
 // Steps on the lent bytes of a net: a step that is done is written where it changes something, and nothing else is read or copied.
 ghost use mathlib.Core.Path.{_≡_};
 ghost use mathlib.Core.Bool.{_&&_};
-ghost use Prim.Native.Nat.{_<_};
 ghost use lib.ListN.{length};
-ghost use Rattle.images.specs.Net.{slotAt};
 ghost use Rattle.images.specs.Read.{scriptOf, netOf};
 ghost use Rattle.step.specs.Tests.{noneReads};
 ghost use Rattle.step.specs.Forward.{forwardDone};
@@ -86,21 +84,6 @@ pub fn write_backward(
 
 // ---- who read what an event made
 
-// The kind of slot i of an image, and the tuple that it used: most slots hold no event, and nothing more is read of these.
-fn kind_at(net: &[u8], i: usize) -> u8
-    requires { ⌜ (length (now net) ≡ 3600) × (i < 64) ⌝ }
-    ensures { λ r. ⌜ r ≡ slotAt (netOf (now (net .entry))) i .kind ⌝ }
-{
-    net[16 + 56 * i]
-}
-
-fn used_at(net: &[u8], i: usize) -> Key
-    requires { ⌜ (length (now net) ≡ 3600) × (i < 64) ⌝ }
-    ensures { λ r. ⌜ r ≡ slotAt (netOf (now (net .entry))) i .used ⌝ }
-{
-    Key(net[21 + 56 * i])
-}
-
 // No past read used either key.
 pub fn unread_in(script: &[u8], net: &[u8], one: Key, two: Key) -> bool
     requires { ⌜ (length (now script) ≡ 2064) × (length (now net) ≡ 3600) ⌝ }
@@ -110,14 +93,14 @@ pub fn unread_in(script: &[u8], net: &[u8], one: Key, two: Key) -> bool
     while next < Key::COUNT {
         let i = next;
         next += 1;
-        if kind_at(net, i) != Slot::PAST {
+        let x = slot_at(net, i);
+        if x.kind != Slot::PAST {
             continue;
         }
-        let used = used_at(net, i);
+        let used = x.used;
         if !is_either(used, one, two) {
             continue;
         }
-        let x = slot_at(net, i);
         let node = x.node;
         let a = node_in(script, node);
         if a.kind == Action::READ {

@@ -3,12 +3,13 @@ use mathlib.Core.Path.{_≡_, sym, _∙_}
 use mathlib.Core.Bool.{false}
 use Prim.Native.Nat.{ℕ, _-_, _<_, _≤_}
 use native.Mathlib.Omega.{arith}
+use denote.Ref.{now}
 use borrow.Author.Count.{below-more}
 use Rattle.images.specs.Net.{slotAt}
-use Rattle.images.proofs.Owned.{shaped-script}
-use Rattle.step.specs.Looked.{slot-place, node-place, slot-looked, node-looked}
+use Rattle.images.specs.Read.{scriptOf, netOf}
+use Rattle.images.specs.Round.{shaped-script}
 use Rattle.step.specs.Tests.{holds-true, fails-false}
-use Rattle.finder.specs.Searched.{meetsAt, not-searched, searched-to, searched-all}
+use Rattle.finder.specs.Searched.{meetsAt, seen, not-searched, searched-to, searched-all}
 use borrow.Author.Needs.{needs}
 use Rattle.finder.proofs.find.Statement.{statement}
 use Rattle.finder.proofs.find.Tie as tie
@@ -17,42 +18,27 @@ use Rattle.finder.proofs.find.Lts as lts
 use Rattle.finder.proofs.finder_answer.Reads as finder-answer-reads
 use Rattle.finder.proofs.meets_at.Reads as meets-at-reads
 use Rattle.finder.proofs.refused.Reads as refused-reads
-use Rattle.images.proofs.net_image.index_of.Reads as index-of-reads
-use Rattle.images.proofs.net_image.slot_or_free.Reads as slot-or-free-reads
-use Rattle.images.proofs.script_image.node_index.Reads as node-index-reads
-use Rattle.images.proofs.script_image.node_or_nil.Reads as node-or-nil-reads
+use Rattle.images.proofs.net_image.present_in.Reads as present-in-reads
+use Rattle.images.proofs.net_image.slot_at.Reads as slot-at-reads
+use Rattle.images.proofs.net_image.slot_in.Reads as slot-in-reads
+use Rattle.images.proofs.script_image.node_in.Reads as node-in-reads
 use Rattle.products.proofs.target_of.Reads as target-of-reads
 use Rattle.step.proofs.checks.all_hold.Reads as all-hold-reads
 
 abbrev Inv-loop : tie.InvT-loop
-Inv-loop n i p a vars l t₀ t = (t ≤ 64) × ((j : ℕ) → j < t → meetsAt a vars l (slotAt n j) ≡ false)
+Inv-loop script net a vars l t₀ t = (t ≤ 64) × ((j : ℕ) → j < t → meetsAt a vars l (slotAt (netOf net) j) ≡ false)
 
 abbrev μ-loop : tie.MeasureT-loop
-μ-loop n i p a vars l t₀ t = 64 - t
+μ-loop script net a vars l t₀ t = 64 - t
 
-index-of-requires : tie.Need-index-of-requires Inv-loop μ-loop
-index-of-requires c κs = search needs
+slot-in-requires : tie.Need-slot-in-requires Inv-loop μ-loop
+slot-in-requires c κs = search needs
 
-mul-at-key : tie.Need-mul-at-key Inv-loop μ-loop
-mul-at-key c = omega (arith, slot-place (c .before .args .key) _ (c .index-of .ensures))
+node-in-requires : tie.Need-node-in-requires Inv-loop μ-loop
+node-in-requires c κs = search needs
 
-element-copy-out-at-key : tie.Need-element-copy-out-at-key Inv-loop μ-loop
-element-copy-out-at-key c = slot-place (c .before .args .key) _ (c .index-of .ensures)
-
-slot-or-free-requires : tie.Need-slot-or-free-requires Inv-loop μ-loop
-slot-or-free-requires c κs = search needs
-
-node-index-requires : tie.Need-node-index-requires Inv-loop μ-loop
-node-index-requires c κs = search needs
-
-mul-action : tie.Need-mul-action Inv-loop μ-loop
-mul-action c = omega (arith, node-place (c .before .before .slot-or-free .result .node) _ (c .node-index .ensures))
-
-element-copy-out-action : tie.Need-element-copy-out-action Inv-loop μ-loop
-element-copy-out-action c = node-place (c .before .before .slot-or-free .result .node) _ (c .node-index .ensures)
-
-node-or-nil-requires : tie.Need-node-or-nil-requires Inv-loop μ-loop
-node-or-nil-requires c κs = search needs
+present-in-requires : tie.Need-present-in-requires Inv-loop μ-loop
+present-in-requires c κs = search needs
 
 finder-answer-requires : tie.Need-finder-answer-requires Inv-loop μ-loop
 finder-answer-requires c κs = search needs
@@ -70,7 +56,11 @@ refused-requires : tie.Need-refused-requires Inv-loop μ-loop
 refused-requires c κs = search needs
 
 returns : tie.Need-returns Inv-loop μ-loop
-returns c = c .refused .ensures ∙ not-searched (c .before .before .before .before .before .before .before .before .before .before .before .before .before .args .t1) (shaped-script (c .before .before .before .before .before .before .before .before .before .before .before .before .before .args .t1) _ (c .before .before .before .before .before .before .before .before .before .before .before .before .before .good .0) .nodes) (c .before .before .before .before .before .before .before .before .before .before .before .before .before .args .t2) (c .before .before .before .before .before .before .before .before .before .before .before .before .before .args .key) _ _ (slot-looked (c .before .before .before .before .before .before .before .before .before .before .before .before .before .args .t2) (c .before .before .before .before .before .before .before .before .before .before .before .before .before .args .key) _ _ (c .before .before .before .before .before .before .before .before .before .before .before .before .index-of .ensures) (c .before .before .before .before .before .before .before .before .before .before .slot-or-free .ensures)) (node-looked (c .before .before .before .before .before .before .before .before .before .before .before .before .before .args .t1) (c .before .before .before .before .before .before .before .before .before .before .slot-or-free .result .node) _ _ (c .before .before .before .before .before .before .before .before .node-index .ensures) (c .before .before .before .before .before .before .node-or-nil .ensures)) _ (c .before .before .before .before .finder-answer .ensures) (fails-false _ (sym (c .before .before .before .all-hold .ensures) ∙ c .before .enum-told2 .given .1))
+returns c =
+    c .refused .ensures ∙
+    not-searched (scriptOf (now (c .before .before .before .before .before .before .before .before .before .before .before .args .script))) (shaped-script (now (c .before .before .before .before .before .before .before .before .before .before .before .args .script)) (λ i. c .before .before .before .before .before .before .before .before .before .before .shared-slice-known .given i .fits) .nodes) (netOf (now (c .before .before .before .before .before .before .before .before .before .before .before .args .net))) (c .before .before .before .before .before .before .before .before .before .before .before .args .key) _ _ _
+    (c .before .before .before .before .before .before .before .before .slot-in .ensures) (c .before .before .before .before .before .before .node-in .ensures) (c .before .before .before .before .before .present-in .ensures) _ (c .before .before .before .before .finder-answer .ensures)
+    (fails-false _ (sym (c .before .before .before .all-hold .ensures) ∙ c .before .enum-told2 .given .1))
 
 target-of-requires : tie.Need-target-of-requires Inv-loop μ-loop
 target-of-requires c κs = search needs
@@ -78,17 +68,11 @@ target-of-requires c κs = search needs
 loop-holds : tie.Need-loop-holds Inv-loop μ-loop
 loop-holds c = (search needs, λ j h. absurd (omega (arith, h)))
 
-cast-loop : tie.Need-cast-loop Inv-loop μ-loop
-cast-loop c = search needs
+cast-slot-at : tie.Need-cast-slot-at Inv-loop μ-loop
+cast-slot-at c = search needs
 
-cast-held : tie.Need-cast-held Inv-loop μ-loop
-cast-held c = search needs
-
-mul-held : tie.Need-mul-held Inv-loop μ-loop
-mul-held c = search needs
-
-element-copy-out-held : tie.Need-element-copy-out-held Inv-loop μ-loop
-element-copy-out-held c = search needs
+slot-at-requires : tie.Need-slot-at-requires Inv-loop μ-loop
+slot-at-requires c κs = search needs
 
 meets-at-requires : tie.Need-meets-at-requires Inv-loop μ-loop
 meets-at-requires c κs = search needs
@@ -96,7 +80,10 @@ meets-at-requires c κs = search needs
 returns-2 : tie.Need-returns-2 Inv-loop μ-loop
 returns-2 c =
     let w = c .before .before .before .before .loop in
-    searched-to (c .before .before .before .before .before .before .before .before .before .before .before .before .before .before .before .before .before .before .before .args .t1) (shaped-script (c .before .before .before .before .before .before .before .before .before .before .before .before .before .before .before .before .before .before .before .args .t1) _ (c .before .before .before .before .before .before .before .before .before .before .before .before .before .before .before .before .before .before .before .good .0) .nodes) (c .before .before .before .before .before .before .before .before .before .before .before .before .before .before .before .before .before .before .before .args .t2) (c .before .before .before .before .before .before .before .before .before .before .before .before .before .before .before .before .before .before .before .args .key) _ _ (slot-looked (c .before .before .before .before .before .before .before .before .before .before .before .before .before .before .before .before .before .before .before .args .t2) (c .before .before .before .before .before .before .before .before .before .before .before .before .before .before .before .before .before .before .before .args .key) _ _ (c .before .before .before .before .before .before .before .before .before .before .before .before .before .before .before .before .before .before .index-of .ensures) (c .before .before .before .before .before .before .before .before .before .before .before .before .before .before .before .before .slot-or-free .ensures)) (node-looked (c .before .before .before .before .before .before .before .before .before .before .before .before .before .before .before .before .before .before .before .args .t1) (c .before .before .before .before .before .before .before .before .before .before .before .before .before .before .before .before .slot-or-free .result .node) _ _ (c .before .before .before .before .before .before .before .before .before .before .before .before .before .before .node-index .ensures) (c .before .before .before .before .before .before .before .before .before .before .before .before .node-or-nil .ensures)) _ (c .before .before .before .before .before .before .before .before .before .before .finder-answer .ensures) (holds-true _ (sym (c .before .before .before .before .before .before .before .before .before .all-hold .ensures) ∙ c .before .before .before .before .before .before .before .enum-told .given .1)) _ (c .before .before .before .before .before .target-of .ensures) (w .t) (omega (arith, c .before .before .before .loop-test .taken)) (w .inv .1) (sym (c .before .meets-at .ensures) ∙ c .if1 .taken)
+    searched-to (scriptOf (now (c .before .before .before .before .before .before .before .before .before .before .before .before .before .before .before .before .before .args .script))) (shaped-script (now (c .before .before .before .before .before .before .before .before .before .before .before .before .before .before .before .before .before .args .script)) (λ i. c .before .before .before .before .before .before .before .before .before .before .before .before .before .before .before .before .shared-slice-known .given i .fits) .nodes) (netOf (now (c .before .before .before .before .before .before .before .before .before .before .before .before .before .before .before .before .before .args .net))) (c .before .before .before .before .before .before .before .before .before .before .before .before .before .before .before .before .before .args .key) _ _ _
+    (c .before .before .before .before .before .before .before .before .before .before .before .before .before .before .slot-in .ensures) (c .before .before .before .before .before .before .before .before .before .before .before .before .node-in .ensures) (c .before .before .before .before .before .before .before .before .before .before .before .present-in .ensures) _ (c .before .before .before .before .before .before .before .before .before .before .finder-answer .ensures)
+    (holds-true _ (sym (c .before .before .before .before .before .before .before .before .before .all-hold .ensures) ∙ c .before .before .before .before .before .before .before .enum-told .given .1)) _ (c .before .before .before .before .before .target-of .ensures)
+    (w .t) (omega (arith, c .before .before .before .loop-test .taken)) (w .inv .1) (seen (netOf (now (c .before .before .before .before .before .before .before .before .before .before .before .before .before .before .before .before .before .args .net))) _ _ _ (w .t) _ (c .before .before .slot-at .ensures) _ _ (c .before .meets-at .ensures) (c .if1 .taken))
 
 add-t : tie.Need-add-t Inv-loop μ-loop
 add-t c = search needs
@@ -107,7 +94,7 @@ loop-less c = omega (arith, c .before .before .before .loop-test .taken)
 loop-again : tie.Need-loop-again Inv-loop μ-loop
 loop-again c =
     let w = c .before .before .before .before .loop in
-    (omega (arith, c .before .before .before .loop-test .taken), below-more _ (w .t) (w .inv .1) (sym (c .before .meets-at .ensures) ∙ c .if1 .left))
+    (omega (arith, c .before .before .before .loop-test .taken), below-more _ (w .t) (w .inv .1) (seen (netOf (now (c .before .before .before .before .before .before .before .before .before .before .before .before .before .before .before .before .before .args .net))) _ _ _ (w .t) _ (c .before .before .slot-at .ensures) _ _ (c .before .meets-at .ensures) (c .if1 .left)))
 
 refused-requires-2 : tie.Need-refused-requires-2 Inv-loop μ-loop
 refused-requires-2 c κs = search needs
@@ -115,7 +102,11 @@ refused-requires-2 c κs = search needs
 returns-3 : tie.Need-returns-3 Inv-loop μ-loop
 returns-3 c =
     let w = c .before .before .loop in
-    c .refused2 .ensures ∙ searched-all (c .before .before .before .before .before .before .before .before .before .before .before .before .before .before .before .before .before .args .t1) (shaped-script (c .before .before .before .before .before .before .before .before .before .before .before .before .before .before .before .before .before .args .t1) _ (c .before .before .before .before .before .before .before .before .before .before .before .before .before .before .before .before .before .good .0) .nodes) (c .before .before .before .before .before .before .before .before .before .before .before .before .before .before .before .before .before .args .t2) (c .before .before .before .before .before .before .before .before .before .before .before .before .before .before .before .before .before .args .key) _ _ (slot-looked (c .before .before .before .before .before .before .before .before .before .before .before .before .before .before .before .before .before .args .t2) (c .before .before .before .before .before .before .before .before .before .before .before .before .before .before .before .before .before .args .key) _ _ (c .before .before .before .before .before .before .before .before .before .before .before .before .before .before .before .before .index-of .ensures) (c .before .before .before .before .before .before .before .before .before .before .before .before .before .before .slot-or-free .ensures)) (node-looked (c .before .before .before .before .before .before .before .before .before .before .before .before .before .before .before .before .before .args .t1) (c .before .before .before .before .before .before .before .before .before .before .before .before .before .before .slot-or-free .result .node) _ _ (c .before .before .before .before .before .before .before .before .before .before .before .before .node-index .ensures) (c .before .before .before .before .before .before .before .before .before .before .node-or-nil .ensures)) _ (c .before .before .before .before .before .before .before .before .finder-answer .ensures) (holds-true _ (sym (c .before .before .before .before .before .before .before .all-hold .ensures) ∙ c .before .before .before .before .before .enum-told .given .1)) _ (c .before .before .before .target-of .ensures) (λ j h. w .inv .1 j (omega (arith, h, c .before .loop-test .left)))
+    c .refused2 .ensures ∙
+    searched-all (scriptOf (now (c .before .before .before .before .before .before .before .before .before .before .before .before .before .before .before .args .script))) (shaped-script (now (c .before .before .before .before .before .before .before .before .before .before .before .before .before .before .before .args .script)) (λ i. c .before .before .before .before .before .before .before .before .before .before .before .before .before .before .shared-slice-known .given i .fits) .nodes) (netOf (now (c .before .before .before .before .before .before .before .before .before .before .before .before .before .before .before .args .net))) (c .before .before .before .before .before .before .before .before .before .before .before .before .before .before .before .args .key) _ _ _
+    (c .before .before .before .before .before .before .before .before .before .before .before .before .slot-in .ensures) (c .before .before .before .before .before .before .before .before .before .before .node-in .ensures) (c .before .before .before .before .before .before .before .before .before .present-in .ensures) _ (c .before .before .before .before .before .before .before .before .finder-answer .ensures)
+    (holds-true _ (sym (c .before .before .before .before .before .before .before .all-hold .ensures) ∙ c .before .before .before .before .before .enum-told .given .1)) _ (c .before .before .before .target-of .ensures)
+    (λ j h. w .inv .1 j (omega (arith, h, c .before .loop-test .left)))
 
 pub find-spec : {M : Type 1} → statement M
 find-spec =
@@ -123,14 +114,9 @@ find-spec =
     (tie.spec
     Inv-loop
     μ-loop
-    index-of-requires
-    mul-at-key
-    element-copy-out-at-key
-    slot-or-free-requires
-    node-index-requires
-    mul-action
-    element-copy-out-action
-    node-or-nil-requires
+    slot-in-requires
+    node-in-requires
+    present-in-requires
     finder-answer-requires
     all-hold-requires
     enum-told
@@ -139,10 +125,8 @@ find-spec =
     returns
     target-of-requires
     loop-holds
-    cast-loop
-    cast-held
-    mul-held
-    element-copy-out-held
+    cast-slot-at
+    slot-at-requires
     meets-at-requires
     returns-2
     add-t

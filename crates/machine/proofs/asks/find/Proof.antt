@@ -1,19 +1,19 @@
--- `find` meets its contract. Assumes nothing.
-use mathlib.Core.Path.{_≡_, refl, sym, ap, _∙_}
+-- `find` meets its contract: it is refused with the answer of the images, or answered. Assumes nothing.
+use mathlib.Core.Path.{_≡_, refl, sym, _∙_}
 use denote.Ref.{now}
 use Rattle.step.specs.Tests.{holds-true, fails-false}
-use Rattle.machine.specs.Asked.{find-no, find-yes}
+use Rattle.machine.specs.Asked.{good-sizes, find-no, find-yes}
 use borrow.Author.Needs.{needs}
 use Rattle.machine.proofs.asks.find.Statement.{statement}
 use Rattle.machine.proofs.asks.find.Tie as tie
 use Rattle.machine.proofs.asks.find.Reads as reads
 use Rattle.machine.proofs.asks.find.Lts as lts
 use Rattle.finder.proofs.find.Reads as find-reads
-use Rattle.machine.proofs.take_apart.Reads as take-apart-reads
+use Rattle.machine.proofs.image_answer.Reads as image-answer-reads
 use Rattle.step.proofs.checks.all_hold.Reads as all-hold-reads
 
-take-apart-requires : tie.Need-take-apart-requires
-take-apart-requires c κs = search needs
+image-answer-requires : tie.Need-image-answer-requires
+image-answer-requires c κs = search needs
 
 all-hold-requires : tie.Need-all-hold-requires
 all-hold-requires c κs = search needs
@@ -25,19 +25,19 @@ enum-told-2 : tie.Need-enum-told-2
 enum-told-2 c = search needs
 
 returns : tie.Need-returns
-returns c = find-no (now (c .before .before .before .before .before .before .args .script)) (now (c .before .before .before .before .before .before .args .net)) _ (c .before .before .before .take-apart .ensures) (fails-false _ (sym (c .before .before .all-hold .ensures) ∙ c .enum-told2 .given .1)) (c .before .before .before .before .before .before .args .key) _ refl
+returns c = find-no (now (c .before .before .before .before .before .before .args .script)) (now (c .before .before .before .before .before .before .args .net)) _ (c .before .before .before .image-answer .ensures) (fails-false _ (sym (c .before .before .all-hold .ensures) ∙ c .enum-told2 .given .1)) (c .before .before .before .before .before .before .args .key) _ refl
 
 find-requires : tie.Need-find-requires
-find-requires c κs = search needs
+find-requires c κs = good-sizes (now (c .before .before .before .before .before .before .args .script)) (now (c .before .before .before .before .before .before .args .net)) _ (c .before .before .before .image-answer .ensures) (holds-true _ (sym (c .before .before .all-hold .ensures) ∙ c .enum-told .given .1))
 
 returns-2 : tie.Need-returns-2
-returns-2 c = find-yes (now (c .before .before .before .before .before .before .before .before .before .args .script)) (now (c .before .before .before .before .before .before .before .before .before .args .net)) _ (c .before .before .before .before .before .before .take-apart .ensures) (holds-true _ (sym (c .before .before .before .before .before .all-hold .ensures) ∙ c .before .before .before .enum-told .given .1)) (c .before .before .before .before .before .before .before .before .before .args .key) _ (c .find .ensures)
+returns-2 c = find-yes (now (c .before .before .before .before .before .before .before .args .script)) (now (c .before .before .before .before .before .before .before .args .net)) _ (c .before .before .before .before .image-answer .ensures) (holds-true _ (sym (c .before .before .before .all-hold .ensures) ∙ c .before .enum-told .given .1)) (c .before .before .before .before .before .before .before .args .key) _ (c .find .ensures)
 
 pub find-spec : {M : Type 1} → statement M
 find-spec =
     tie.close
     (tie.spec
-    take-apart-requires
+    image-answer-requires
     all-hold-requires
     enum-told
     enum-told-2
