@@ -10,8 +10,7 @@ use images::Action;
 use images::Datum;
 use images::Slot;
 use images::net_image::is_free;
-use matching::Match;
-use matching::match_tuple;
+use matching::template_meets;
 use names::Localities;
 use names::Locality;
 use names::NONE;
@@ -133,12 +132,8 @@ pub fn template_met(a: Action, vars: [Datum; Variable::COUNT], t: Slot) -> Check
         return Check::Holds;
     }
     let fields = t.contents;
-    let m = match_tuple(vars, a, t.count, fields);
-    let answer = m.answer;
-    match answer {
-        Match::Matches => Check::Holds,
-        Match::Differs => Check::Fails,
-    }
+    let b = template_meets(vars, a, t.count, fields);
+    told(b)
 }
 
 // ---- 11: fresh names
