@@ -25,16 +25,17 @@ use yardstick::{file, Yardstick};
 const PROGRAM: &str = concat!(env!("CARGO_MANIFEST_DIR"), "/../target/bin/rewind");
 /// Requests of a stream for `rewind` and the yardstick, and for the second
 /// program, which reads and accepts its images anew for each.
-const LONG: usize = 2_000_000;
+const LONG: usize = 1_000_000;
 const SHORT: usize = 20_000;
 /// Calls of one measurement.
-const CALLS: usize = 20_000;
+const CALLS: usize = 5_000;
 /// The yardstick does so many times as much in one measurement, so that it is
-/// watched for as long as the proved program.
-const OFTEN: usize = 10;
-/// Measurements are taken by turns and the best of each counts: what else runs
-/// on the machine only adds.
-const ROUNDS: usize = 5;
+/// watched for about as long as the proved program.
+const RUNS_OF_YARDSTICK: usize = 4;
+const CALLS_OF_YARDSTICK: usize = 2 * CALLS;
+/// Measurements are short, many, and taken by turns, and the best of each
+/// counts: what else runs on the machine only adds.
+const ROUNDS: usize = 40;
 
 fn stream(images: &Images, unit: &[u8], requests: usize) -> Vec<u8> {
     let turns = requests / (unit.len() / 6);
@@ -129,7 +130,7 @@ impl Sort<'_> {
         let long = file("bench.long", &long);
         let (seconds, yardstick) = best(
             || proved.seconds(&long, 1),
-            || Some(yardstick.as_ref()?.seconds(&long, OFTEN)),
+            || Some(yardstick.as_ref()?.seconds(&long, RUNS_OF_YARDSTICK)),
         );
         println!(
             "{} {:11.0} {second:8.0} {:8.0} {} {}{}",
@@ -146,7 +147,7 @@ impl Sort<'_> {
     fn compare_calls(&self, yardstick: Option<&Yardstick>) {
         let (library, yardstick) = best(
             || call_time(self.images, self.unit),
-            || Some(yardstick?.call_time(self.images, self.unit, OFTEN * CALLS)),
+            || Some(yardstick?.call_time(self.images, self.unit, CALLS_OF_YARDSTICK)),
         );
         println!(
             "{} {library:11.2} {} {}",

@@ -1,7 +1,7 @@
 -- The greatest key of a word, and so the keys of a word from the last to the first: a word of those still to come, of which the greatest is
 -- looked at and taken out.
 --
--- In order: `Highest`; it is where the leading zeros end (`some-zeros`, `highest-bit`); without it the word is less (`without-less`); `ToCome`,
+-- In order: `Highest`; it is where the leading zeros end (`some-zeros`, `highest-bit`); without one of its keys a word is less (`fewer-less`, `without-less`); `ToCome`,
 -- the keys below a bound are still to come: at first (`to-come-first`), the greatest of them (`to-come-near`, `to-come-there`), those passed
 -- over (`to-come-over`), once it was looked at (`to-come-next`), at last (`to-come-none`), and of another word (`to-come-other`).
 -- Assumes nothing.
@@ -58,14 +58,17 @@ highest-bit s k h e is =
           above = λ x a b. ap (λ (y : ℕ). eqb (y % 2) 1) (div-eq-of-lt (lt-of-lt-of-le high (pow-mono a)));
         }
 
--- a word without its greatest key is less
-pub without-less : (s t : Keys) (k : Key) → Highest s k → t ≡ excluding s k → t .0 < s .0
+-- a word without one of its keys is less
+pub fewer-less : (s t : Keys) (k : Key) → k .0 < keyCount → isIn s k ≡ true → t ≡ excluding s k → t .0 < s .0
 unfolding Sets.excluding
-without-less s t k h e =
+fewer-less s t k below there e =
     lt-of-le-ne (rw e (and-le-l (s .0) (2 ^ keyCount - 1 - 2 ^ k .0)))
     (λ same.
-    clash (isIn s k) (h .there)
-    (ap (λ (w : ℕ). member w (k .0)) (sym same ∙ ap (λ (r : Keys). r .0) e) ∙ member-excluding keyCount (s .0) (k .0) (h .below)))
+    clash (isIn s k) there
+    (ap (λ (w : ℕ). member w (k .0)) (sym same ∙ ap (λ (r : Keys). r .0) e) ∙ member-excluding keyCount (s .0) (k .0) below))
+
+pub without-less : (s t : Keys) (k : Key) → Highest s k → t ≡ excluding s k → t .0 < s .0
+without-less s t k h e = fewer-less s t k (h .below) (h .there) e
 
 -- ---- the keys of a word, from the last to the first
 

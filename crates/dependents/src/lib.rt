@@ -1,12 +1,12 @@
-// Who depends on an event, directly or not; and which of the events left may be undone next. What depends directly on what is given as a
+// Who depends on an event, directly or not; and whether of the events left one may be undone next. What depends directly on what is given as a
 // set of keys for each event.
 ghost use mathlib.Core.Path.{_≡_};
 ghost use mathlib.Core.Bool.{true};
 ghost use Prim.Native.Nat.{_<_};
-ghost use Rattle.names.specs.Names.{keyCount, key};
+ghost use Rattle.names.specs.Names.{keyCount};
 ghost use Rattle.names.specs.KeySets.{keys, isIn, both, isEmpty};
 ghost use Rattle.order.specs.Words.{wordOf};
-ghost use Rattle.dependents.specs.Marks.{marksOf, beside, dependentMarks, marked, lastOf};
+ghost use Rattle.dependents.specs.Marks.{marksOf, beside, dependentMarks, marked};
 use cycles::highest;
 use names::Key;
 use names::Keys;
@@ -76,26 +76,10 @@ pub fn keys_of(m: Marks) -> Keys
 
 // ---- which may be undone next
 
-// Nothing left depends directly on the key of this row.
-fn none_after(row: Keys, left: Keys) -> bool
+// Nothing left depends directly on the key of this row, so that it may be undone.
+pub fn none_after(row: Keys, left: Keys) -> bool
     ensures { λ r. ⌜ r ≡ isEmpty (both row left) ⌝ }
 {
     let after = row.both(left);
     after.is_empty()
-}
-
-// The greatest key that is left and on which nothing left depends directly; none where there is none.
-pub fn last_of(rows: [Keys; Key::COUNT], left: Keys) -> Key
-    ensures { λ r. ⌜ r ≡ key (lastOf rows keyCount left) ⌝ }
-{
-    let mut to_come = left;
-    while !to_come.is_empty() {
-        let k = highest(to_come);
-        let row = rows[k.0 as usize];
-        if none_after(row, left) {
-            return k;
-        }
-        to_come = to_come.without(k);
-    }
-    Key::NONE
 }

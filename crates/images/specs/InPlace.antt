@@ -1,10 +1,11 @@
 -- A net image read and written in place: a step looks at few slots of the lent bytes, and writes few.
--- In order: what is looked up is what reading the whole image gives (`slot-part`, `node-part`); the bytes once a slot or the
+-- In order: what is looked up is what reading the whole image gives (`slot-part`, `slot-lent`, `node-part`); the bytes once a slot or the
 -- present set is written there (`slotPut`, `presentPut`), as many as before (`length-slot-put`, `length-present-put`); of a net's bytes they are
 -- the bytes of the net with that slot or set (`slot-put-net`, `present-put-net`).
 -- Assumes nothing.
-use Prim.Native.Nat.{ℕ, zero, suc, _+_, _*_, _<_}
+use Prim.Native.Nat.{ℕ, zero, suc, _+_, _-_, _*_, _<_}
 use mathlib.Core.Path.{_≡_, refl, ap, ap₂, sym, _∙_}
+use mathlib.Core.Bool.{true}
 use mathlib.Core.Logic.{_≢_}
 use mathlib.Core.List.{List, _++_, append-assoc}
 use native.Mathlib.Nat.{mul-zero, mul-suc, add-comm, le-of-suc-le-suc, not-suc-le-zero}
@@ -15,14 +16,14 @@ use lib.Seq.{take-append-add, drop-append-add, drop-append-seam, getD-set-same, 
 use borrow.Author.Tests.{ltb-true}
 use Rattle.laws.specs.Choice.{pick, cases}
 use Rattle.laws.specs.Lists.{tab, tab-ext, getD-tab}
-use Rattle.laws.specs.Parts.{flat, put, length-put}
+use Rattle.laws.specs.Parts.{flat, put, length-put, part-size}
 use Rattle.laws.specs.Words.{word, bytesOf, length-bytes}
 use Rattle.names.specs.Names.{keyCount, nodeCount}
 use Rattle.names.specs.declared.Key.{Key}
 use Rattle.names.specs.declared.Localities.{Localities}
 use Rattle.images.specs.Head.{partAt, headBytes}
 use Rattle.images.specs.Script.{action0, actionAt}
-use Rattle.images.specs.Net.{slot0, slotAt, slotBytes, netBytes}
+use Rattle.images.specs.Net.{slot0, slotAt, slotWith, slotBytes, netBytes}
 use Rattle.images.specs.Read.{actionOf, scriptOf, slotOf, netOf}
 use Rattle.images.specs.Layout.{length-head, length-slot}
 use Rattle.images.specs.declared.Slot.{Slot}
@@ -33,6 +34,13 @@ use Rattle.images.specs.declared.Net.{Net}
 pub slot-part : (b : List ℕ) (i : ℕ) → i < keyCount → slotOf (partAt 56 b i) ≡ slotAt (netOf b) i
 unfolding netOf
 slot-part b i h = sym (getD-tab keyCount (λ j. slotOf (partAt 56 b j)) i slot0 h)
+
+-- the slot with a key, read from the bytes that are lent for it
+pub slot-lent : (b : List ℕ) (k : Key) → ltb (k .0) keyCount ≡ true
+    → slotWith (netOf b) k ≡ slotOf (take (16 + 56 * k .0 + 56 - (16 + 56 * k .0)) (drop (16 + 56 * k .0) b))
+slot-lent b k h =
+    let at = 16 + 56 * k .0 in
+    rw h (sym (slot-part b (k .0) (ltb-true (k .0) 64 h))) ∙ ap (λ (n : ℕ). slotOf (take n (drop at b))) (sym (part-size at 56))
 
 pub node-part : (b : List ℕ) (i : ℕ) → i < nodeCount → actionOf (partAt 32 b i) ≡ actionAt (scriptOf b) i
 unfolding scriptOf

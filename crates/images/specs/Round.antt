@@ -25,6 +25,7 @@ use Rattle.images.specs.Script.{actionBytes, scriptBytes, actionInRange,
 use Rattle.images.specs.Net
 use Rattle.images.specs.Net.{slotBytes, netBytes, slotInRange, netInRange, freeInRange, processInRange, tupleInRange, madeAre, madeInRange, isTuple, nodeOrCount, datumAt, refAt, slotAt, datum0, slot0}
 use Rattle.images.specs.Read.{fieldOf, actionOf, actionFormed, nodesFormed, scriptOf, scriptFormed, datumOf, slotOf, slotFormed, slotsFormed, netOf, netFormed}
+use Rattle.names.specs.declared.Key.{Key}
 use Rattle.images.specs.declared.Field.{Field}
 use Rattle.images.specs.declared.Datum.{Datum}
 use Rattle.images.specs.declared.Action.{Action}
@@ -280,6 +281,23 @@ slot-back p b l r =
     (ap₂ (λ x y. x ++ y) (slot-pairs p ∙ pairs-back 8 p b (omega arith))
     (ap₂ (λ x y. x ++ y) (slot-refs p ∙ tab-part 4 48 p 0 (omega arith)) (zeros-back p 52 b (omega arith) (rest-last 56 p r)))) ∙
     pieces-four 8 40 4 4 p l
+
+-- a slot with the contents and the references of such a part: the bytes that hold these are those that stand there
+pub slot-keeping : (p : List ℕ) → Bytes p → length p ≡ 56 → (s : Slot) → s .contents ≡ slotOf p .contents → s .refs ≡ slotOf p .refs
+    → Net.firstBytes s ++ (take 44 (drop 8 p) ++ (0 ∷ 0 ∷ 0 ∷ 0 ∷ [])) ≡ slotBytes s
+unfolding slotBytes
+slot-keeping p b l s same-contents same-refs =
+    let zeros : List ℕ = 0 ∷ 0 ∷ 0 ∷ 0 ∷ [] in
+    let contents : pairBytes 8 (λ j. datumAt s j .tag) (λ j. datumAt s j .number) ≡ take 40 (drop 8 p) =
+    ap (λ (c : List Datum). pairBytes 8 (λ j. getD c j datum0 .tag) (λ j. getD c j datum0 .number)) same-contents ∙ slot-pairs p ∙
+    pairs-back 8 p b (omega arith) in
+    let refs : tab 4 (λ j. refAt s j .0) ≡ take 4 (drop 48 p) =
+    ap (λ (c : List Key). tab 4 (λ j. getD c j (key 0) .0)) same-refs ∙ slot-refs p ∙ tab-part 4 48 p 0 (omega arith) in
+    let both : take 44 (drop 8 p) ≡ take 40 (drop 8 p) ++ take 4 (drop 48 p) =
+    take-add 40 4 (drop 8 p) ∙ ap (λ (r : List ℕ). take 40 (drop 8 p) ++ take 4 r) (drop-drop 40 8 p) in
+    ap (λ (r : List ℕ). Net.firstBytes s ++ r)
+    (ap (λ (r : List ℕ). r ++ zeros) both ∙ append-assoc (take 40 (drop 8 p)) (take 4 (drop 48 p)) zeros ∙
+    sym (ap₂ (λ (x y : List ℕ). x ++ (y ++ zeros)) contents refs))
 
 bytes-part : (size : ℕ) (b : List ℕ) (i : ℕ) → Bytes b → Bytes (partAt size b i)
 bytes-part size b i h = bytes-take size (drop (16 + size * i) b) (bytes-drop (16 + size * i) b h)

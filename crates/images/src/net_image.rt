@@ -462,6 +462,19 @@ pub fn put_slot(k: Key, x: Slot, d: &mut [u8])
     write_slot(x, &mut d[at..at + SLOT_SIZE]);
 }
 
+// The slot is written at its key, whose contents and references it keeps; where there is no such key, nothing is.
+pub fn put_keeping(k: Key, x: Slot, d: &mut [u8])
+    requires { ⌜ length (now d) ≡ 3600 ⌝ }
+    requires { ⌜ (x .contents ≡ slotWith (netOf (now d)) k .contents) × (x .refs ≡ slotWith (netOf (now d)) k .refs) ⌝ }
+    ensures { λ _. ⌜ now (d .exit) ≡ slotPut k x (now (d .entry)) ⌝ }
+{
+    if !k.is_key() {
+        return;
+    }
+    let at = 16 + SLOT_SIZE * k.0 as usize;
+    write_around(x, &mut d[at..at + SLOT_SIZE]);
+}
+
 pub fn put_present(p: Localities, d: &mut [u8])
     requires { ⌜ length (now d) ≡ 3600 ⌝ }
     ensures { λ _. ⌜ now (d .exit) ≡ presentPut p (now (d .entry)) ⌝ }
@@ -614,6 +627,16 @@ fn write_slot(s: Slot, p: &mut [u8])
     write_tags(contents, &mut p[8..16]);
     write_numbers(contents, &mut p[16..48]);
     write_refs(refs, &mut p[48..56]);
+}
+
+// A slot whose contents and references stand there already: only what is around them is written.
+fn write_around(s: Slot, p: &mut [u8])
+    requires { ⌜ length (now p) ≡ 56 ⌝ }
+    requires { ⌜ (s .contents ≡ slotOf (now p) .contents) × (s .refs ≡ slotOf (now p) .refs) ⌝ }
+    ensures { λ _. ⌜ now (p .exit) ≡ slotBytes s ⌝ }
+{
+    write_first(s, &mut p[0..8]);
+    laws::write_four(0, 0, 0, 0, &mut p[52..56]);
 }
 
 fn write_image(n: Net, d: &mut [u8])

@@ -1,16 +1,16 @@
 -- A list in parts of one length: put together (`flat`), and cut again.
 -- In order: `flat`; its length; a part of what was put together (`part-flat`); what was cut, put together (`flat-parts`); a list in
 -- front and the parts after it (`whole`); a list is its pieces (`pieces-three`, `pieces-four`); parts of a list lent one after the other, from its front (`put`, `front-put`, `put-two`,
--- `put-four`); one part more (`flat-more`); how many elements a part has (`part-size`).
+-- `put-four`), or its first and its last part (`put-around`); one part more (`flat-more`); how many elements a part has (`part-size`).
 -- Assumes nothing.
-use mathlib.Core.Path.{_≡_, refl, ap, ap₂, sym, _∙_, subst}
+use mathlib.Core.Path.{_≡_, ap, ap₂, sym, _∙_}
 use mathlib.Core.List.{List, [], _∷_, _++_, append-nil, append-assoc}
 use Prim.Native.Nat.{ℕ, zero, suc, _+_, _-_, _*_, _<_, _≤_, suc-le-suc}
-use native.Mathlib.Nat.{add-zero, zero-add, mul-zero, mul-suc, add-comm, add-assoc, le-of-suc-le-suc, not-suc-le-zero}
+use native.Mathlib.Nat.{add-zero, mul-zero, mul-suc, add-comm, add-assoc, le-of-suc-le-suc, not-suc-le-zero}
 use native.Mathlib.Numerals.{add-one}
 use native.Mathlib.Omega.{arith}
 use lib.ListN.{length, take, drop, length-append, length-drop, take-append-drop, drop-of-length-le}
-use lib.Seq.{take-at, drop-append-add, drop-drop, take-add, take-all, length-take-le, take-append-le}
+use lib.Seq.{take-at, take-append-add, drop-append-add, drop-drop, take-add, take-all, length-take-le}
 use Rattle.laws.specs.Lists.{tab, tab-ext}
 
 module _ {A : Type 0} where
@@ -126,6 +126,19 @@ module _ {A : Type 0} where
       let f₂ : take (k₀ + k₁ + k₂) p₂ ≡ y₀ ++ y₁ ++ y₂ = front-put (k₀ + k₁) k₂ p₁ y₂ (y₀ ++ y₁) f₁ (omega arith) m₂ in
       let f₃ : take (k₀ + k₁ + k₂ + k₃) p₃ ≡ y₀ ++ y₁ ++ y₂ ++ y₃ = front-put (k₀ + k₁ + k₂) k₃ p₂ y₃ (y₀ ++ y₁ ++ y₂) f₂ (omega arith) m₃ in
       sym (take-all (k₀ + k₁ + k₂ + k₃) p₃ (omega arith)) ∙ f₃ ∙ rw (e₀, e₁, e₂, e₃) (simp append-assoc)
+
+  -- the first and the last part of a list, and what stands between them stays
+  pub put-around : (k₀ m k₁ : ℕ) (xs y₀ y₁ x₀ x₁ : List A) → length xs ≡ k₀ + m + k₁ → y₀ ≡ x₀ → y₁ ≡ x₁ → length x₀ ≡ k₀ → put (k₀ + m) k₁ (put 0 k₀ xs y₀) y₁ ≡ x₀ ++ (take m (drop k₀ xs) ++ x₁)
+  put-around k₀ m k₁ xs y₀ y₁ x₀ x₁ h e₀ e₁ l₀ =
+      let r : List A = drop k₀ xs in
+      let m₀ : k₀ ≡ length y₀ = sym (ap length e₀ ∙ l₀) in
+      let kept : take (k₀ + m) (y₀ ++ r) ≡ y₀ ++ take m r =
+      ap (λ (n : ℕ). take (n + m) (y₀ ++ r)) m₀ ∙ take-append-add y₀ r m in
+      let over : drop k₁ (drop (k₀ + m) (y₀ ++ r)) ≡ [] =
+      ap (λ (n : ℕ). drop k₁ (drop (n + m) (y₀ ++ r))) m₀ ∙ ap (drop k₁) (drop-append-add y₀ r m) ∙
+      drop-of-length-le (drop m r) {i = k₁} (simp length-drop (omega arith)) in
+      ap₂ (λ (f t : List A). f ++ (y₁ ++ t)) kept over ∙ ap (λ (t : List A). (y₀ ++ take m r) ++ t) (append-nil y₁) ∙
+      append-assoc y₀ (take m r) y₁ ∙ ap₂ (λ (a b : List A). a ++ (take m r ++ b)) e₀ e₁
 
   -- one part more of a table's parts
   flat-suc : (k : ℕ) (g : ℕ → List A) → flat (tab (suc k) g) ≡ flat (tab k g) ++ g k

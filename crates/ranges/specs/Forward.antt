@@ -67,7 +67,7 @@ passed a x t f g present r h =
     let (c4, (c5, (c6, (c7, (c8, (c9, (c10, (c11, _)))))))) =
     all-hold (forwardTests a x t f g present r)
     (λ e. omega arith, (λ e. omega arith, (λ e. omega arith, (λ e. omega arith, (λ e. omega arith, (λ e. omega arith, (λ e. omega arith, (λ e. omega arith, tt)))))))) h in
-    let fresh-place = and-right (secondFresh (a .kind) g r) _ (and-right (isFree f) _ c11) in
+    let fresh-place = and-right (secondFresh (a .kind) (isFree g) r) _ (and-right (isFree f) _ c11) in
     record {
       is-live = c4;
       acting = c5;

@@ -16,9 +16,8 @@ use Rattle.images.specs.Shape.{Word, ShapedSlot, ShapedNet}
 use Rattle.images.specs.declared.Slot.{Slot}
 use Rattle.images.specs.declared.Net.{Net}
 use Rattle.rules.specs.Laws.{set-keeps}
-use Rattle.step.specs.Change.{Change, putIn, applied}
+use Rattle.step.specs.Change.{Put, Change, putIn, applied}
 use Rattle.step.specs.Written.{put-length}
-use Rattle.step.specs.declared.Put.{Put}
 
 -- ---- every slot of a net, and of a change
 

@@ -1,11 +1,13 @@
 -- A set of events undone in the lent bytes of a net: after each turn they are the bytes of the net that `Rolling` speaks of, and in the end those
 -- of the outcome's net.
 -- In order: the length of a net in its form (`net-size`); a change leaves as many bytes (`change-kept`); what undoes one event (`undoneFor`), from what was
--- looked up, written where it may be undone (`one-written`); `RollingIn`, what each turn keeps of the bytes: before the first turn (`in-first`), the key that
--- is found may be undone (`in-may`), the next turn (`in-next`), and where no key is found or after as many turns as there are keys (`in-done`, `in-last`);
--- the same of an equal set (`gives-same`).
+-- looked up, written where it may be undone (`one-written`); `RollingIn`, what each turn keeps of the bytes: before the first turn (`in-first`), where a key
+-- is found (`in-few`, `in-may`), the next turn (`in-next`), and where none is (`in-done`); the loop comes to its end (`turn-less`); the same of an equal
+-- set (`gives-same`).
 -- Assumes nothing.
-use Prim.Native.Nat.{ℕ, _+_, _≤_, _<_, _^_}
+use Prim.Native.Nat.{ℕ, suc, _+_, _*_, _≤_, _<_, _^_}
+use native.Mathlib.Nat.{mul-suc, mul-le-mul-left}
+use native.Mathlib.Omega.{arith}
 use mathlib.Core.Path.{_≡_, refl, sym, ap, _∙_, subst}
 use mathlib.Core.Bool.{true, false}
 use mathlib.Core.List.{List}
@@ -17,7 +19,7 @@ use Rattle.laws.specs.Choice.{cases, clash, and-left}
 use Rattle.order.specs.KeySets.{Set}
 use Rattle.names.specs.Names.{keyCount, key, isKey}
 use Rattle.names.specs.Localities.{localities}
-use Rattle.names.specs.KeySets.{excluding}
+use Rattle.names.specs.KeySets.{isIn, excluding}
 use Rattle.names.specs.declared.Key.{Key}
 use Rattle.names.specs.declared.Keys.{Keys}
 use Rattle.names.specs.declared.Localities.{Localities}
@@ -33,6 +35,7 @@ use Rattle.requests.specs.Checks.{refusal}
 use Rattle.requests.specs.Requests.{answerOf, isDone}
 use Rattle.requests.specs.declared.Answer.{Answer}
 use Rattle.requests.specs.declared.Told.{Told}
+use Rattle.cycles.specs.Highest.{fewer-less}
 use Rattle.cycles.specs.Cycles.{members}
 use Rattle.dependents.specs.Marks.{lastOf}
 use Rattle.step.specs.Change.{Change, refused, stepped, applied}
@@ -40,7 +43,7 @@ use Rattle.step.specs.Tests.{backwardTests}
 use Rattle.step.specs.Backward.{backwardDone, backwardBy, undoing, undoneBy}
 use Rattle.step.specs.InPlace.{putBytes, changeBytes, change-bytes, slot-kept, present-kept}
 use Rattle.rollback.specs.Rollback.{Outcome, told, Gives, done, toldDone, undoneAll}
-use Rattle.rollback.specs.Undone.{Asked, Rolling, rolling-first, rolling-may, rolling-next, rolling-done, rolling-last}
+use Rattle.rollback.specs.Undone.{Asked, Rolling, rolling-first, rolling-few, rolling-may, rolling-next, rolling-done}
 
 pub net-size : (N : List ℕ) → netFormed N ≡ true → length N ≡ 3600
 unfolding netFormed
@@ -110,6 +113,9 @@ module _ (s : Script) (w : ShapedScript s) (n : Net) (v : ShapedNet n) (rows : L
     all-told e t is = (is ∙ ap told e, sym (g .bytes) ∙ ap (λ (o : Outcome). netBytes (o .net)) e)
 
     module _ (k : Key) (found : k ≡ key (lastOf rows keyCount left)) where
+      pub in-few : isKey k ≡ true → turn < keyCount
+      in-few there = rolling-few s w n v rows all p turn freed left (netOf b) (g .rolling) k found there
+
       pub in-may : isKey k ≡ true → isDone (undoneFor s (netOf b) k .answer) ≡ true
       unfolding undoneFor
       in-may there =
@@ -133,8 +139,19 @@ module _ (s : Script) (w : ShapedScript s) (n : Net) (v : ShapedNet n) (rows : L
       pub in-done : isKey k ≡ false → (t : Told) → t ≡ toldDone turn freed → Gives t b (undoneAll s n (members all))
       in-done absent = all-told (rolling-done s w n v rows all p turn freed left (netOf b) (g .rolling) k found absent)
 
-    pub in-last : keyCount ≤ turn → (t : Told) → t ≡ toldDone turn freed → Gives t b (undoneAll s n (members all))
-    in-last h = all-told (rolling-last s w n v rows all p turn freed left (netOf b) (g .rolling) h)
+-- ---- the end
+
+above : (c l m t u : ℕ) → l < m → t < c → c * l + t < c * m + u
+above c l m t u h s =
+    let p : c * suc l ≤ c * m = mul-le-mul-left c h in
+    let q : c * suc l ≡ c * l + c = mul-suc c l in
+    omega (arith, p, q, s)
+
+-- with one key undone fewer are left, however many are then to be looked at
+pub turn-less : (left rest toCome : Keys) (k : Key) → k .0 < keyCount → isIn left k ≡ true → rest ≡ excluding left k → rest .0 < 2 ^ keyCount
+    → 2 ^ keyCount * rest .0 + rest .0 < 2 ^ keyCount * left .0 + toCome .0
+turn-less left rest toCome k below there e small =
+    above (2 ^ keyCount) (rest .0) (left .0) (rest .0) (toCome .0) (fewer-less left rest k below there e) small
 
 -- ---- an equal set
 

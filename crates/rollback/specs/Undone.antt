@@ -1,14 +1,14 @@
 -- How the code undoes a closed set of events: one by one, each time the last key on which nothing that is left depends. In the end answer, count,
 -- touched and net are those of the set undone at once.
 --
--- In order: what is asked (`Asked`); `Rolling`, what each turn keeps; before the first turn (`rolling-first`); the key found may be undone
--- (`rolling-undoable`, `rolling-may`), and the next turn (`rolling-next`); where no key is found, or after as many turns as there are keys, all is done
--- (`rolling-done`, `rolling-last`); the dependents of an event are what is asked for (`event-key`, `all-are`, `asked-all`).
+-- In order: what is asked (`Asked`); `Rolling`, what each turn keeps; before the first turn (`rolling-first`); where a key is found, fewer turns were made
+-- than there are keys (`rolling-few`), the key may be undone (`rolling-undoable`, `rolling-may`), and the next turn follows (`rolling-next`); where none is
+-- found, all is done (`rolling-done`); the dependents of an event are what is asked for (`event-key`, `all-are`, `asked-all`).
 -- Assumes nothing.
 use mathlib.Core.Path.{_≡_, refl, sym, ap, ap₂, _∙_, fun-ext, subst}
 use mathlib.Core.Bool.{Bool, true, false, _&&_, _||_}
 use mathlib.Core.List.{List, [], _∷_, _++_}
-use Prim.Native.Nat.{ℕ, _+_, _≤_, _<_, _^_}
+use Prim.Native.Nat.{ℕ, _+_, _<_, _^_}
 use native.Mathlib.Omega.{arith}
 use lib.Dec.{ltb}
 use lib.ListN.{length, length-append}
@@ -129,6 +129,21 @@ module _ (s : Script) (w : ShapedScript s) (n : Images.Net) (v : ShapedNet n) (r
         found-last : Last (depends (view s n)) (members left) (k .0)
         found-last = subst (λ (d : Graph). Last d (members left) (k .0)) graph-is (last-there rows (eventsOf n) left k found there)
 
+        -- so fewer turns were made than there are keys
+        pub rolling-few : turn < keyCount
+        rolling-few =
+            let x : ℕ = k .0 in
+            let q : x ∈ members all ∖ K.members (g .ks) = sym (ap (λ (T : Set). T x) (g .turns .rest)) ∙ found-last .member in
+            let taken = undoes-taken (rulesOf s .keys) U ok (g .turns .steps) in
+            omega (
+              arith,
+              g .undone,
+              taken-length keyCount (among (view s n) ok .below) taken,
+              count-strict keyCount (K.members (g .ks)) (members all) (λ y l. g .turns .inside y) x (ltb-true x keyCount there)
+                  (minus-out (members all) (K.members (g .ks)) x q) (minus-in (members all) (K.members (g .ks)) x q),
+              count-le keyCount (members all),
+            )
+
         -- the key that is found may be undone
         pub rolling-undoable : Undoable (view s net) (k .0)
         rolling-undoable =
@@ -214,26 +229,6 @@ module _ (s : Script) (w : ShapedScript s) (n : Images.Net) (v : ShapedNet n) (r
     pub rolling-done : (k : Key) → k ≡ key (lastOf rows keyCount left) → isKey k ≡ false → done turn freed net ≡ undoneAll s n (members all)
     rolling-done k found absent =
         all-done (last-none rows (eventsOf n) left k found absent (g .small) left-inside (subst Acyclic (sym (graph-is k found)) (ok .no-cycle)))
-
-    -- after as many turns as there are keys nothing is left
-    pub rolling-last : keyCount ≤ turn → done turn freed net ≡ undoneAll s n (members all)
-    rolling-last h =
-        all-done
-        (λ x b.
-        fails (members left x)
-        (λ m.
-        let q : x ∈ members all ∖ K.members (g .ks) = sym (ap (λ (T : Set). T x) (g .turns .rest)) ∙ m in
-        let taken = undoes-taken (rulesOf s .keys) U ok (g .turns .steps) in
-        absurd
-        (omega (
-          arith,
-          h,
-          g .undone,
-          taken-length keyCount (among (view s n) ok .below) taken,
-          count-strict keyCount (K.members (g .ks)) (members all) (λ y l. g .turns .inside y) x b
-              (minus-out (members all) (K.members (g .ks)) x q) (minus-in (members all) (K.members (g .ks)) x q),
-          count-le keyCount (members all),
-        ))))
 
 -- ---- the dependents of an event are such a set
 

@@ -20,9 +20,10 @@ ghost use Rattle.rollback.specs.Rollback.{Lent, told, lentAfter, toldDon
 ghost use Rattle.rollback.specs.Undone.{Asked};
 ghost use Rattle.rollback.specs.Checked.{heldBy, isHeld, isRoll, rollbackTests, rollTests};
 ghost use Rattle.rollback.specs.InPlace.{undoneFor};
+use cycles::highest;
 use dependents::dependents;
 use dependents::keys_of;
-use dependents::last_of;
+use dependents::none_after;
 use images::Action;
 use images::Slot;
 use images::net_image::present_in;
@@ -87,24 +88,29 @@ fn done(undone: u8, touched: Localities) -> Told
     }
 }
 
-// The events of a set that holds whatever depends on one of them. Each turn undoes a last one of those left, found by one look at each row;
-// so the work is at most in proportion to the square of the number of keys, in whatever order the keys were given out.
+// The events of a set that holds whatever depends on one of them. Those left are looked at from the greatest key down; the first on which
+// nothing left depends is undone, and then all that are left are to be looked at again. So the work is at most in proportion to the square of
+// the number of keys, in whatever order the keys were given out. The loop is in one function: rows that are handed on are copied.
 fn undo_each(script: &[u8], net: &mut [u8], rows: [Keys; Key::COUNT], all: Keys) -> Told
     requires { ⌜ Lent (now script) (now net) × Asked (scriptOf (now script)) (netOf (now net)) rows all ⌝ }
     ensures { λ r. ⌜ r ≡ told (undoneAll (scriptOf (now (script .entry))) (netOf (now (net .entry))) (members all)) ⌝ }
     ensures { λ _. ⌜ now (net .exit) ≡ netBytes (undoneAll (scriptOf (now (script .entry))) (netOf (now (net .entry))) (members all) .net) ⌝ }
 {
     let mut left = all;
+    let mut to_come = all;
     let mut touched = Localities::EMPTY;
     let mut undone: u8 = 0;
-    while undone < 64 {
-        let k = last_of(rows, left);
-        if !k.is_key() {
-            return done(undone, touched);
+    while !to_come.is_empty() {
+        let k = highest(to_come);
+        let row = rows[k.0 as usize];
+        if !none_after(row, left) {
+            to_come = to_come.without(k);
+            continue;
         }
         let freed = undo_one(script, net, k);
         touched = touched_too(touched, freed);
         left = left.without(k);
+        to_come = left;
         undone += 1;
     }
     done(undone, touched)

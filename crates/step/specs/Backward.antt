@@ -28,9 +28,8 @@ use Rattle.requests.specs.Requests.{asked, answerOf}
 use Rattle.requests.specs.declared.Request.{Request}
 use Rattle.requests.specs.declared.Answer.{Answer}
 use Rattle.requests.specs.declared.Answer.the-variants as Answer
-use Rattle.step.specs.Change.{Change, put, nowhere, stepped}
+use Rattle.step.specs.Change.{Put, Change, put, nowhere, stepped}
 use Rattle.step.specs.Tests.{backwardTests}
-use Rattle.step.specs.declared.Put.{Put}
 
 -- the second thing made becomes free, or the tuple that an in took is live again
 unfoldable pub backwardOther : Action → Slot → Slot → Put

@@ -1,5 +1,5 @@
 -- What a step changes, and the net once that is written.
--- In order: a change (`Change`); a slot at a key (`put`) or none (`nowhere`); a refusal (`refused`); a step by its answer (`stepped`,
+-- In order: a slot and where it goes (`Put`); a change (`Change`); a slot at a key (`put`) or none (`nowhere`); a refusal (`refused`); a step by its answer (`stepped`,
 -- `stepped-yes`, `stepped-no`); a change written (`putIn`, `applied`).
 -- Assumes nothing.
 use Prim.Native.Nat.{ℕ}
@@ -16,7 +16,11 @@ use Rattle.images.specs.declared.Slot.{Slot}
 use Rattle.images.specs.declared.Net.{Net}
 use Rattle.requests.specs.Requests.{isDone}
 use Rattle.requests.specs.declared.Answer.{Answer}
-use Rattle.step.specs.declared.Put.{Put}
+
+-- a slot, and the key that it is put at; none where nothing is put
+pub record Put : Type 0 where
+  pub key : Key
+  pub slot : Slot
 
 -- what a step answers and changes: how many events were undone, the localities at which a slot became free, the three slots that may change
 -- (the process itself, what is at its first key, and one more), and the localities that are then present

@@ -4,9 +4,9 @@
 -- is done (`forwardDone`); any step (`forwardChange`), and the same from the slots that the request names (`forwardBy`).
 -- Assumes nothing.
 use Prim.Native.Nat.{ℕ}
-use mathlib.Core.Bool.{Bool, _&&_}
+use mathlib.Core.Bool.{_&&_}
 use Rattle.laws.specs.Choice.{pick}
-use Rattle.names.specs.Names.{none, key, locality, isLocality}
+use Rattle.names.specs.Names.{locality, isLocality}
 use Rattle.names.specs.Localities.{localities, joined}
 use Rattle.names.specs.declared.Locality.{Locality}
 use Rattle.names.specs.declared.Localities.{Localities}
@@ -26,9 +26,8 @@ use Rattle.requests.specs.Requests.{asked, answerOf}
 use Rattle.requests.specs.declared.Request.{Request}
 use Rattle.requests.specs.declared.Answer.{Answer}
 use Rattle.requests.specs.declared.Answer.the-variants as Answer
-use Rattle.step.specs.Change.{Change, put, nowhere, stepped}
+use Rattle.step.specs.Change.{Put, Change, put, nowhere, stepped}
 use Rattle.step.specs.Tests.{forwardTests}
-use Rattle.step.specs.declared.Put.{Put}
 
 -- "The process becomes past and keeps its contents": with the keys it made, the tuple it used and the locality it made
 abbrev pub pastSlot : Slot → Request → Slot

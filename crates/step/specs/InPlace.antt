@@ -1,9 +1,11 @@
 -- A change written in place, put after put into the bytes of a net: what it leaves are the bytes of the net once the change is written.
 -- In order: the bytes after a change (`changeBytes`); of a net's bytes (`put-bytes`, `change-bytes`); they stay as many (`slot-kept`,
--- `present-kept`); what a forward and a backward step write (`forward-written`, `backward-written`), and what it frees (`freed-both`).
+-- `present-kept`); what a forward and a backward step write (`forward-written`, `backward-written`), their third
+-- slot by cases (`makes-another`, `takes-tuple`, `makes-no-other`; `frees-another`, `gives-tuple`, `frees-no-other`), and what is freed (`freed-both`).
 -- Assumes nothing.
 use Prim.Native.Nat.{ℕ}
 use mathlib.Core.Path.{_≡_, refl, ap, _∙_}
+use mathlib.Core.Bool.{true, false}
 use mathlib.Core.List.{List}
 use lib.ListN.{length}
 use Rattle.laws.specs.Choice.{cases}
@@ -16,14 +18,13 @@ use Rattle.images.specs.InPlace.{slotPut, presentPut, length-slot-put, length-p
 use Rattle.images.specs.declared.Action.{Action}
 use Rattle.images.specs.declared.Slot.{Slot}
 use Rattle.images.specs.declared.Net.{Net}
-use Rattle.products.specs.Body.{bodyOf, liveProcess}
-use Rattle.products.specs.Products.{continuedBy}
+use Rattle.products.specs.Body.{bodyOf, fresh, liveProcess}
+use Rattle.products.specs.Products.{isIn, makesSecond, continuedBy, secondSlot}
 use Rattle.requests.specs.declared.Request.{Request}
-use Rattle.step.specs.Change.{Change, putIn, applied}
+use Rattle.step.specs.Change.{Put, Change, putIn, applied}
 use Rattle.step.specs.Forward.{pastSlot, forwardOther, presentAfter, forwardDone}
 use Rattle.step.specs.Backward.{backwardOther, presentBefore, freedAt, backwardDone}
 use Rattle.step.specs.Written.{put-length}
-use Rattle.step.specs.declared.Put.{Put}
 
 -- ---- a change
 
@@ -59,27 +60,57 @@ slot-kept k x b c e h = ap length e ∙ length-slot-put k x b h
 pub present-kept : (p : Localities) (b c : List ℕ) → c ≡ presentPut p b → length b ≡ 3600 → length c ≡ 3600
 present-kept p b c e h = ap length e ∙ length-present-put p b h
 
-module _ (b b₁ b₂ b₃ b₄ : List ℕ) (e f : Slot) (o : Put) (p : Localities) where
+module _ (b b₁ b₂ b₃ b₄ : List ℕ) (e f : Slot) (p : Localities) where
   pub forward-written : (a : Action) (x t : Slot) (present : Localities) (r : Request) → e ≡ pastSlot x r → b₁ ≡ slotPut (r .key) e b
-      → f ≡ liveProcess (continuedBy a (r .key) (bodyOf x) (t .contents) (r .place)) → b₂ ≡ slotPut (r .first) f b₁ → o ≡ forwardOther a x t r
-      → b₃ ≡ slotPut (o .key) (o .slot) b₂ → p ≡ presentAfter (a .kind) present (r .place) → b₄ ≡ presentPut p b₃
+      → f ≡ liveProcess (continuedBy a (r .key) (bodyOf x) (t .contents) (r .place)) → b₂ ≡ slotPut (r .first) f b₁
+      → b₃ ≡ putBytes (forwardOther a x t r) b₂ → p ≡ presentAfter (a .kind) present (r .place) → b₄ ≡ presentPut p b₃
       → b₄ ≡ changeBytes (forwardDone a x t present r) b
   unfolding changeBytes forwardDone
-  forward-written a x t present r is-e is₁ is-f is₂ is-o is₃ is-p is₄ =
+  forward-written a x t present r is-e is₁ is-f is₂ is₃ is-p is₄ =
       let s₁ = is₁ ∙ ap (λ (z : Slot). slotPut (r .key) z b) is-e in
       let s₂ = is₂ ∙ (λ i. slotPut (r .first) (is-f i) (s₁ i)) in
-      let s₃ = is₃ ∙ (λ i. slotPut (is-o i .key) (is-o i .slot) (s₂ i)) in
+      let s₃ = is₃ ∙ ap (putBytes (forwardOther a x t r)) s₂ in
       is₄ ∙ (λ i. presentPut (is-p i) (s₃ i))
 
   pub backward-written : (a : Action) (x first second t : Slot) (present : Localities) (k : Key) → e ≡ liveProcess (bodyOf x) → b₁ ≡ slotPut k e b
-      → f ≡ freeSlot → b₂ ≡ slotPut (x .first) f b₁ → o ≡ backwardOther a x t → b₃ ≡ slotPut (o .key) (o .slot) b₂
+      → f ≡ freeSlot → b₂ ≡ slotPut (x .first) f b₁ → b₃ ≡ putBytes (backwardOther a x t) b₂
       → p ≡ presentBefore (a .kind) present (x .place) → b₄ ≡ presentPut p b₃ → b₄ ≡ changeBytes (backwardDone a x first second t present k) b
   unfolding changeBytes backwardDone
-  backward-written a x first second t present k is-e is₁ is-f is₂ is-o is₃ is-p is₄ =
+  backward-written a x first second t present k is-e is₁ is-f is₂ is₃ is-p is₄ =
       let s₁ = is₁ ∙ ap (λ (z : Slot). slotPut k z b) is-e in
       let s₂ = is₂ ∙ (λ i. slotPut (x .first) (is-f i) (s₁ i)) in
-      let s₃ = is₃ ∙ (λ i. slotPut (is-o i .key) (is-o i .slot) (s₂ i)) in
+      let s₃ = is₃ ∙ ap (putBytes (backwardOther a x t)) s₂ in
       is₄ ∙ (λ i. presentPut (is-p i) (s₃ i))
+
+-- a step makes a second thing, or takes a tuple, or neither
+module _ (a : Action) (x t : Slot) (r : Request) (z : Slot) (b c : List ℕ) where
+  pub makes-another : makesSecond (a .kind) ≡ true → z ≡ secondSlot a (bodyOf x) → c ≡ slotPut (r .second) z b → c ≡ putBytes (forwardOther a x t r) b
+  unfolding forwardOther
+  makes-another h is-z is-c = rw h (is-c ∙ ap (λ (y : Slot). slotPut (r .second) y b) is-z)
+
+  pub takes-tuple : makesSecond (a .kind) ≡ false → isIn (a .kind) ≡ true → z ≡ fresh 4 (bodyOf t) → c ≡ slotPut (r .used) z b
+      → c ≡ putBytes (forwardOther a x t r) b
+  unfolding forwardOther
+  takes-tuple h k is-z is-c = rw (h, k) (is-c ∙ ap (λ (y : Slot). slotPut (r .used) y b) is-z)
+
+pub makes-no-other : (a : Action) (x t : Slot) (r : Request) (b : List ℕ) → makesSecond (a .kind) ≡ false → isIn (a .kind) ≡ false → b ≡ putBytes (forwardOther a x t r) b
+unfolding forwardOther slotPut
+makes-no-other a x t r b h k = rw (h, k) refl
+
+-- undone, the second thing is free, or the tuple live, or there is neither
+module _ (a : Action) (x t : Slot) (z : Slot) (b c : List ℕ) where
+  pub frees-another : isKey (x .second) ≡ true → z ≡ freeSlot → c ≡ slotPut (x .second) z b → c ≡ putBytes (backwardOther a x t) b
+  unfolding backwardOther
+  frees-another h is-z is-c = rw h (is-c ∙ ap (λ (y : Slot). slotPut (x .second) y b) is-z)
+
+  pub gives-tuple : isKey (x .second) ≡ false → isIn (a .kind) ≡ true → z ≡ fresh 3 (bodyOf t) → c ≡ slotPut (x .used) z b
+      → c ≡ putBytes (backwardOther a x t) b
+  unfolding backwardOther
+  gives-tuple h k is-z is-c = rw (h, k) (is-c ∙ ap (λ (y : Slot). slotPut (x .used) y b) is-z)
+
+pub frees-no-other : (a : Action) (x t : Slot) (b : List ℕ) → isKey (x .second) ≡ false → isIn (a .kind) ≡ false → b ≡ putBytes (backwardOther a x t) b
+unfolding backwardOther slotPut
+frees-no-other a x t b h k = rw (h, k) refl
 
 pub freed-both : (a : Action) (x first second t : Slot) (present : Localities) (k : Key) (one both : Localities) → one ≡ freedAt (localities 0) (x .first) first
     → both ≡ freedAt one (x .second) second → both ≡ backwardDone a x first second t present k .touched

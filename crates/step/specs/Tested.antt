@@ -2,42 +2,38 @@
 -- In order: a node of a script, by its number (`node-is`, `no-node`); check by check, of a forward step (`forward-tests`); the answer of a
 -- forward step from the slots (`forward-answered`), and what it changes (`forward-looked`).
 -- Assumes nothing.
-use Prim.Native.Nat.{ℕ, _<_, _≤_}
-use mathlib.Core.Path.{_≡_, refl, ap, ap₂, sym, _∙_, subst}
-use mathlib.Core.Bool.{Bool, true, false, _&&_, _||_, not}
+use Prim.Native.Nat.{ℕ}
+use mathlib.Core.Path.{_≡_, refl, ap, sym, _∙_}
+use mathlib.Core.Bool.{Bool, true, false, _&&_, not}
 use mathlib.Core.List.{List, [], _∷_}
 use native.Mathlib.Omega.{arith}
 use lib.Dec.{eqb, ltb, leb}
-use lib.ListN.{length, getD, List·getD-eq-default}
-use borrow.Author.Tests.{ltb-false, ltb-true, lt-ltb}
-use Rattle.laws.specs.Choice.{pick, cases, _⇒_, and-right}
+use lib.ListN.{length, List·getD-eq-default}
+use borrow.Author.Tests.{ltb-false}
+use Rattle.laws.specs.Choice.{cases, _⇒_, and-right}
 use Rattle.laws.specs.Sets.{member}
-use Rattle.names.specs.Names.{nodeCount, localityCount, none, locality, isNode, isLocality}
-use Rattle.names.specs.Localities.{holds}
+use Rattle.names.specs.Names.{nodeCount, localityCount, none, locality, isNode}
 use Rattle.names.specs.declared.Node.{Node}
-use Rattle.names.specs.declared.Key.{Key}
 use Rattle.images.specs.Script.{action0, actionAt}
 use Rattle.images.specs.Net.{slotWith, isFree}
-use Rattle.images.specs.Read.{nilAction, nodeWith}
+use Rattle.images.specs.Read.{nodeWith}
 use Rattle.images.specs.declared.Action.{Action}
 use Rattle.images.specs.declared.Script.{Script}
 use Rattle.images.specs.declared.Slot as Image
 use Rattle.images.specs.declared.Net as Images
-use Rattle.nets.specs.Rules.{Act, acts, uses, aims, isNewloc, secondOf, isThere}
+use Rattle.nets.specs.Rules.{Act, acts, uses, aims}
 use Rattle.nets.specs.Net as N
-use Rattle.nets.specs.Net.{isLive, isPast, isLiveTuple}
-use Rattle.products.specs.Body.{Body, bodyOf}
+use Rattle.nets.specs.Net.{isLive}
 use Rattle.products.specs.Products
-use Rattle.products.specs.Products.{isStep, meetsTuple, makesSecond, targetBy, targetThere, readyBy, kindOf, fits}
-use Rattle.matching.specs.Match.{meets}
+use Rattle.products.specs.Products.{isStep, targetBy, targetThere, readyBy, fits}
 use Rattle.rules.specs.Instance.{actOf, makeable, rulesOf}
 use Rattle.rules.specs.Acts.{uses-is, acts-is, aims-is, there-is, newloc-is}
 use Rattle.rules.specs.Roots.{rolledBy}
-use Rattle.rules.specs.View.{view, slotView, view-with, view-present, live-is, past-is, tuple-is, free-is}
+use Rattle.rules.specs.View.{view, view-with, view-present, live-is, tuple-is, free-is}
 use Rattle.requests.specs.Checks.{refusal, check}
 use Rattle.requests.specs.Checks as C
 use Rattle.requests.specs.Answers as A
-use Rattle.requests.specs.Answers.{asNeeded, placesOf, forwardChecks}
+use Rattle.requests.specs.Answers.{placesOf, forwardChecks}
 use Rattle.requests.specs.Requests.{asked, answerOf}
 use Rattle.requests.specs.declared.Request.{Request}
 use Rattle.requests.specs.declared.Answer.{Answer}
@@ -112,7 +108,7 @@ module _ (s : Script) (n : Images.Net) (r : Request) where
     unfolding templateMet fits
     match-check = rw (act-is, uses-is (b .kind), view-with s n (r .key), view-with s n (r .used), there)
 
-    fresh-check : namesFresh (b .kind) (slotWith n (r .first)) (slotWith n (r .second)) (n .present) r ≡ A.freshFree (rolledBy s) W (asked r)
+    fresh-check : namesFresh (b .kind) (isFree (slotWith n (r .first))) (isFree (slotWith n (r .second))) (n .present) r ≡ A.freshFree (rolledBy s) W (asked r)
     unfolding namesFresh secondFresh placeFresh A.freshFree
     fresh-check =
         rw (

@@ -9,7 +9,7 @@ use mathlib.Core.Bool.{Bool, true, false, _&&_, _||_, not}
 use mathlib.Core.Path.{_≡_, refl, ap}
 use mathlib.Core.List.{List, [], _∷_}
 use native.Mathlib.Omega.{arith}
-use lib.Dec.{eqb, ltb}
+use lib.Dec.{eqb}
 use Rattle.laws.specs.Choice.{pick, _⇒_}
 use Rattle.laws.specs.Checks.{all}
 use Rattle.names.specs.Names.{keyCount, locality, isKey}
@@ -53,14 +53,14 @@ unfoldable pub templateMet : Action → List Datum → Slot → Bool
 templateMet a vars t = meetsTuple (a .kind) ⇒ meets vars a (t .count) (t .contents)
 
 -- 11: "a fresh key not free, both equal, or fresh locality below 8 or present"
-unfoldable pub secondFresh : ℕ → Slot → Request → Bool
-secondFresh kind second r = makesSecond kind ⇒ (isFree second && not (eqb (r .first .0) (r .second .0)))
+unfoldable pub secondFresh : ℕ → Bool → Request → Bool
+secondFresh kind free r = makesSecond kind ⇒ (free && not (eqb (r .first .0) (r .second .0)))
 
 unfoldable pub placeFresh : ℕ → Localities → Locality → Bool
 placeFresh kind present l = isNewloc kind ⇒ (makeable (l .0) && not (holds present l))
 
-unfoldable pub namesFresh : ℕ → Slot → Slot → Localities → Request → Bool
-namesFresh kind first second present r = isFree first && (secondFresh kind second r && placeFresh kind present (r .place))
+unfoldable pub namesFresh : ℕ → Bool → Bool → Localities → Request → Bool
+namesFresh kind one two present r = one && (secondFresh kind two r && placeFresh kind present (r .place))
 
 -- checks 4 to 11, of the process x at the node a, with the tuple t and the slots of the fresh keys
 unfoldable pub forwardTests : Action → Slot → Slot → Slot → Slot → Localities → Request → List C.Check
@@ -68,7 +68,7 @@ forwardTests a x t first second present r =
     check 4 (eqb (x .kind) 1) ∷ check 5 (isStep (a .kind)) ∷ check 6 (placesBy (a .kind) r) ∷ check 7 (readyBy a (x .contents)) ∷
     check 8 (targetThere (a .kind) present (locality (targetBy a (x .contents)))) ∷
     check 9 (tupleThere (a .kind) t (locality (targetBy a (x .contents)))) ∷ check 10 (templateMet a (x .contents) t) ∷
-    check 11 (namesFresh (a .kind) first second present r) ∷ []
+    check 11 (namesFresh (a .kind) (isFree first) (isFree second) present r) ∷ []
 
 -- ---- 12: "A past process may be undone when all keys it made are live, a tuple it made is in no past read, and, for a past read, its tuple
 -- is live."

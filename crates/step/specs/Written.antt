@@ -4,15 +4,14 @@
 -- asked the other way round (`eqb-swap`).
 -- Assumes nothing.
 use Prim.Native.Nat.{ℕ, _<_}
-use mathlib.Core.Path.{_≡_, refl, ap, ap₂, sym, _∙_, subst}
-use mathlib.Core.Bool.{Bool, true, false, _&&_, _||_, not, or-true, or-false}
+use mathlib.Core.Path.{_≡_, refl, ap, sym, _∙_, subst}
+use mathlib.Core.Bool.{Bool, true, _&&_, _||_, not, or-true, or-false}
 use lib.Dec.{eqb, ltb}
 use lib.ListN.{length, getD, set, length-set}
 use lib.Seq.{getD-set-same, getD-set-other}
-use native.Mathlib.Omega.{arith}
 use borrow.Author.Tests.{eqb-true, eqb-false, eq-eqb, ne-eqb, ltb-true}
 use Rattle.laws.specs.Choice.{pick, cases}
-use Rattle.laws.specs.Sets.{member, including, excluding}
+use Rattle.laws.specs.Sets.{member}
 use Rattle.order.specs.Words.{word-including, word-excluding}
 use Rattle.names.specs.Names.{keyCount, localityCount, isKey, isLocality}
 use Rattle.names.specs.Localities.{joined, parted}
@@ -22,10 +21,8 @@ use Rattle.images.specs.Net as I
 use Rattle.images.specs.declared.Script.{Script}
 use Rattle.images.specs.declared.Net as Images
 use Rattle.nets.specs.Net as N
-use Rattle.rules.specs.Instance.{rulesOf}
-use Rattle.rules.specs.View.{view, slotView, view-slot, beyond}
-use Rattle.step.specs.Change.{Change, putIn, applied}
-use Rattle.step.specs.declared.Put.{Put}
+use Rattle.rules.specs.View.{view, slotView}
+use Rattle.step.specs.Change.{Put, Change, putIn, applied}
 
 -- the slot is put at this key
 abbrev pub isAt : Put → ℕ → Bool

@@ -3,17 +3,13 @@ ghost use mathlib.Core.Path.{_≡_};
 ghost use Rattle.requests.specs.Checks.{refusal};
 ghost use Rattle.requests.specs.Requests.{answerOf};
 ghost use Rattle.step.specs.Tests.{checked, madeLive, readLive, isEither, canUndo, backwardTests};
-ghost use Rattle.step.specs.Backward.{backwardOther, presentBefore, freedAt};
+ghost use Rattle.step.specs.Backward.{presentBefore, freedAt};
 use super::Check;
-use super::Put;
-use super::as_new;
 use super::checks::is_past;
 use super::checks::none_placed;
 use super::checks::told;
-use super::nowhere;
 use images::Action;
 use images::Slot;
-use images::net_image::free_slot;
 use names::Key;
 use names::Localities;
 use names::Locality;
@@ -105,23 +101,6 @@ pub fn backward_answer(
 }
 
 // ---- what the event made is taken back
-
-// The second thing made becomes free, or the tuple that an in took is live again.
-pub fn backward_other(a: Action, x: Slot, t: Slot) -> Put
-    ensures { λ r. ⌜ r ≡ backwardOther a x t ⌝ }
-{
-    let second = x.second;
-    if second.is_key() {
-        let slot = free_slot();
-        return Put { key: second, slot };
-    }
-    if a.kind == Action::IN {
-        let slot = as_new(Slot::TUPLE, t);
-        let key = x.used;
-        return Put { key, slot };
-    }
-    nowhere()
-}
 
 pub fn present_before(kind: u8, present: Localities, l: Locality) -> Localities
     ensures { λ r. ⌜ r ≡ presentBefore kind present l ⌝ }

@@ -9,7 +9,6 @@ use super::Check;
 use images::Action;
 use images::Datum;
 use images::Slot;
-use images::net_image::is_free;
 use matching::template_meets;
 use names::Localities;
 use names::Locality;
@@ -138,13 +137,14 @@ pub fn template_met(a: Action, vars: [Datum; Variable::COUNT], t: Slot) -> Check
 
 // ---- 11: fresh names
 
-fn second_fresh(kind: u8, second: Slot, r: Request) -> bool
-    ensures { λ o. ⌜ o ≡ secondFresh kind second r ⌝ }
+// Of the second key: whether its slot is free, and it is not the first.
+fn second_fresh(kind: u8, free: bool, r: Request) -> bool
+    ensures { λ o. ⌜ o ≡ secondFresh kind free r ⌝ }
 {
     if !makes_second(kind) {
         return true;
     }
-    if !is_free(second) {
+    if !free {
         return false;
     }
     r.first.0 != r.second.0
@@ -162,13 +162,14 @@ fn place_fresh(kind: u8, present: Localities, l: Locality) -> bool
     !present.has(l)
 }
 
-pub fn names_fresh(kind: u8, first: Slot, second: Slot, present: Localities, r: Request) -> Check
-    ensures { λ o. ⌜ o ≡ checked (namesFresh kind first second present r) ⌝ }
+// By whether the slots of the two fresh keys are free.
+pub fn names_fresh(kind: u8, one: bool, two: bool, present: Localities, r: Request) -> Check
+    ensures { λ o. ⌜ o ≡ checked (namesFresh kind one two present r) ⌝ }
 {
-    if !is_free(first) {
+    if !one {
         return Check::Fails;
     }
-    if !second_fresh(kind, second, r) {
+    if !second_fresh(kind, two, r) {
         return Check::Fails;
     }
     let place = r.place;

@@ -3,10 +3,8 @@ ghost use mathlib.Core.Path.{_≡_};
 ghost use Rattle.requests.specs.Checks.{refusal};
 ghost use Rattle.requests.specs.Requests.{answerOf};
 ghost use Rattle.step.specs.Tests.{forwardTests};
-ghost use Rattle.step.specs.Forward.{pastSlot, forwardOther, presentAfter};
+ghost use Rattle.step.specs.Forward.{pastSlot, presentAfter};
 use super::Check;
-use super::Put;
-use super::as_new;
 use super::checks::acts;
 use super::checks::is_live;
 use super::checks::names_fresh;
@@ -14,15 +12,13 @@ use super::checks::places_given;
 use super::checks::target_present;
 use super::checks::template_met;
 use super::checks::tuple_there;
-use super::nowhere;
 use images::Action;
 use images::Slot;
+use images::net_image::is_free;
 use names::Localities;
 use names::Locality;
 use products::Readiness;
 use products::evaluable;
-use products::makes_second;
-use products::second_made;
 use products::target_of;
 use requests::Answer;
 use requests::Request;
@@ -62,7 +58,9 @@ pub fn forward_answer(
     let Check::Holds = template_met(a, vars, t) else {
         return Answer::NoMatch;
     };
-    let Check::Holds = names_fresh(a.kind, first, second, present, r) else {
+    let one = is_free(first);
+    let two = is_free(second);
+    let Check::Holds = names_fresh(a.kind, one, two, present, r) else {
         return Answer::NotFresh;
     };
     Answer::Done
@@ -92,23 +90,6 @@ pub fn past_slot(x: Slot, r: Request) -> Slot
         contents,
         refs,
     }
-}
-
-// What an out, an eval or a split makes besides, or the tuple that an in takes.
-pub fn forward_other(a: Action, x: Slot, t: Slot, r: Request) -> Put
-    ensures { λ o. ⌜ o ≡ forwardOther a x t r ⌝ }
-{
-    if makes_second(a.kind) {
-        let slot = second_made(a, x);
-        let key = r.second;
-        return Put { key, slot };
-    }
-    if a.kind == Action::IN {
-        let slot = as_new(Slot::CONSUMED, t);
-        let key = r.used;
-        return Put { key, slot };
-    }
-    nowhere()
 }
 
 pub fn present_after(kind: u8, present: Localities, l: Locality) -> Localities

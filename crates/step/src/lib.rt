@@ -2,9 +2,7 @@
 // check 4 on; a step that none refuses is written into the net's bytes: at most three slots, and the present set.
 ghost use mathlib.Core.Path.{_≡_};
 ghost use Rattle.products.specs.Body.{bodyOf, fresh};
-ghost use Rattle.step.specs.Change.{nowhere};
 use images::Slot;
-use images::net_image::free_slot;
 use names::Key;
 use names::Locality;
 
@@ -17,12 +15,6 @@ pub mod in_place;
 pub enum Check {
     Holds,
     Fails,
-}
-
-// A slot, and the key that it is put at; none where nothing is put.
-pub struct Put {
-    pub key: Key,
-    pub slot: Slot,
 }
 
 // The record as it would be made, of this kind: nothing made and nothing used.
@@ -44,15 +36,5 @@ pub fn as_new(kind: u8, x: Slot) -> Slot
         place: Locality::NONE,
         contents,
         refs,
-    }
-}
-
-pub fn nowhere() -> Put
-    ensures { λ r. ⌜ r ≡ nowhere ⌝ }
-{
-    let slot = free_slot();
-    Put {
-        key: Key::NONE,
-        slot,
     }
 }

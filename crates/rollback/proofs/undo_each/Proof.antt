@@ -1,88 +1,138 @@
--- `undo_each` meets its contract. The loop's invariant is `RollingIn`, of the lent bytes. Assumes nothing.
+-- `undo_each` meets its contract. The loop's invariant is `RollingIn`, of the lent bytes, and `Asking`, of those still to be looked at. Assumes nothing.
 use mathlib.Core.Path.{_≡_, refl, sym, _∙_}
-use Prim.Native.Nat.{_-_, _≤_}
+use Prim.Native.Nat.{_+_, _*_, _^_}
 use native.Mathlib.Omega.{arith}
 use denote.Ref.{now}
 use lib.ListN.{length}
-use borrow.Author.Tests.{not-true, not-false, ltb-true}
+use borrow.Author.Tests.{not-true, not-false, lt-ltb}
+use borrow.Author.Needs.{needs}
+use Rattle.names.specs.Names.{keyCount, none, key}
 use Rattle.images.specs.Read.{scriptOf, netOf}
 use Rattle.images.specs.Round.{net-back, shaped-script, shaped-net}
 use Rattle.images.specs.Shape.{ShapedScript, ShapedNet}
+use Rattle.cycles.specs.Highest.{without-less, to-come-there}
+use Rattle.dependents.specs.Lasts.{Asking, asking-first, asking-here, asking-next, asking-done}
 use Rattle.rollback.specs.Undone.{Asked}
-use Rattle.rollback.specs.InPlace.{net-size, change-kept, RollingIn, in-first, in-may, in-next, in-done, in-last}
-use borrow.Author.Needs.{needs}
+use Rattle.rollback.specs.InPlace.{net-size, change-kept, RollingIn, in-first, in-few, in-may, in-next, in-done, turn-less}
 use Rattle.rollback.proofs.undo_each.Statement.{statement}
 use Rattle.rollback.proofs.undo_each.Tie as tie
 use Rattle.rollback.proofs.undo_each.Reads as reads
 use Rattle.rollback.proofs.undo_each.Lts as lts
-use Rattle.dependents.proofs.last_of.Reads as last-of-reads
-use Rattle.names.proofs.Key.is_key.Reads as is-key-reads
+use Rattle.cycles.proofs.highest.Reads as highest-reads
+use Rattle.dependents.proofs.none_after.Reads as none-after-reads
+use Rattle.names.proofs.Keys.is_empty.Reads as is-empty-reads
 use Rattle.names.proofs.Keys.without.Reads as without-reads
 use Rattle.rollback.proofs.done.Reads as done-reads
 use Rattle.rollback.proofs.touched_too.Reads as touched-too-reads
 use Rattle.rollback.proofs.undo_one.Reads as undo-one-reads
 
 abbrev Inv-loop : tie.InvT-loop
-Inv-loop script net₀ rows left₀ touched₀ undone₀ net left touched undone =
-    (undone ≤ 64) × (length net ≡ 3600) ×
+Inv-loop script net₀ rows left₀ to-come₀ touched₀ undone₀ net left to-come touched undone =
+    (length net ≡ 3600) × Asking rows left to-come ×
     ((w : ShapedScript (scriptOf script)) (v : ShapedNet (netOf net₀)) (p : Asked (scriptOf script) (netOf net₀) rows left₀)
     → RollingIn (scriptOf script) w (netOf net₀) v rows left₀ p undone touched left net)
 
 abbrev μ-loop : tie.MeasureT-loop
-μ-loop script net₀ rows left₀ touched₀ undone₀ net left touched undone = 64 - undone
+μ-loop script net₀ rows left₀ to-come₀ touched₀ undone₀ net left to-come touched undone = 2 ^ keyCount * left .0 + to-come .0
 
 loop-holds : tie.Need-loop-holds Inv-loop μ-loop
-loop-holds c = (search needs, net-size _ (c .before .before .pre .0 .formed), λ w v p. in-first _ w _ v _ _ p (now (c .before .before .args .net)) (net-back (now (c .before .before .args .net)) (λ i. c .slice-known .given i .fits) (c .before .before .pre .0 .formed)) refl (search needs))
+loop-holds c = (
+  net-size _ (c .before .before .pre .0 .formed),
+  asking-first _ _,
+  λ w v p. in-first _ w _ v _ _ p (now (c .before .before .args .net)) (net-back (now (c .before .before .args .net)) (λ i. c .slice-known .given i .fits) (c .before .before .pre .0 .formed)) refl (search needs),
+)
 
-last-of-requires : tie.Need-last-of-requires Inv-loop μ-loop
-last-of-requires c κs = search needs
+is-empty-requires : tie.Need-is-empty-requires Inv-loop μ-loop
+is-empty-requires c κs = search needs
 
-is-key-requires : tie.Need-is-key-requires Inv-loop μ-loop
-is-key-requires c κs = search needs
+highest-requires : tie.Need-highest-requires Inv-loop μ-loop
+highest-requires c κs = sym (c .before .is-empty .ensures) ∙ not-true _ (c .if1 .taken)
+
+cast-row : tie.Need-cast-row Inv-loop μ-loop
+cast-row c = search needs
+
+mul-row : tie.Need-mul-row Inv-loop μ-loop
+mul-row c = search needs
+
+array-copy-out-row : tie.Need-array-copy-out-row Inv-loop μ-loop
+array-copy-out-row c = c .before .highest .ensures .below
+
+none-after-requires : tie.Need-none-after-requires Inv-loop μ-loop
+none-after-requires c κs = search needs
+
+without-requires : tie.Need-without-requires Inv-loop μ-loop
+without-requires c κs = c .before .before .before .before .highest .ensures .below
+
+loop-less : tie.Need-loop-less Inv-loop μ-loop
+loop-less c = omega (arith, without-less _ _ _ (c .before .before .before .before .before .highest .ensures) (c .without .ensures))
+
+loop-again : tie.Need-loop-again Inv-loop μ-loop
+loop-again c = (
+  c .before .before .before .before .before .before .before .before .loop .inv .0,
+  asking-next _ _ _ (c .before .before .before .before .before .before .before .before .loop .inv .1) _ (c .before .before .before .before .before .highest .ensures) (sym (c .before .before .none-after .ensures) ∙ not-true _ (c .before .if2 .taken)) _ (c .without .ensures),
+  c .before .before .before .before .before .before .before .before .loop .inv .2,
+)
+
+undo-one-requires : tie.Need-undo-one-requires Inv-loop μ-loop
+undo-one-requires c κs =
+    let s = scriptOf (now (c .before .before .before .before .before .before .before .before .before .before .before .args .script)) in
+    let w = shaped-script (now (c .before .before .before .before .before .before .before .before .before .before .before .args .script)) (λ i. c .before .before .before .before .before .before .before .before .before .before .shared-slice-known .given i .fits) in
+    let v = shaped-net (now (c .before .before .before .before .before .before .before .before .before .before .before .args .net)) (λ i. c .before .before .before .before .before .before .before .before .before .slice-known .given i .fits) in
+    let p = c .before .before .before .before .before .before .before .before .before .before .before .pre .1 in
+    let n = netOf (now (c .before .before .before .before .before .before .before .before .before .before .before .args .net)) in
+    let g = c .before .before .before .before .before .before .before .before .loop .inv .2 w v p in
+    let below = c .before .before .before .before .before .highest .ensures .below in
+    let found = asking-here (c .before .before .before .before .before .before .before .before .before .before .before .args .t3) _ _ (c .before .before .before .before .before .before .before .before .loop .inv .1) _ (c .before .before .before .before .before .highest .ensures) (sym (c .before .before .none-after .ensures) ∙ not-false _ (c .before .if2 .left)) in
+    ((c .before .before .before .before .before .before .before .before .before .before .before .pre .0 .size, c .before .before .before .before .before .before .before .before .loop .inv .0), in-may s w n v (c .before .before .before .before .before .before .before .before .before .before .before .args .t3) (c .before .before .before .before .before .before .before .before .before .before .before .args .all) p _ _ _ _ g _ found (lt-ltb _ keyCount below))
+
+touched-too-requires : tie.Need-touched-too-requires Inv-loop μ-loop
+touched-too-requires c κs = search needs
+
+without-requires-2 : tie.Need-without-requires-2 Inv-loop μ-loop
+without-requires-2 c κs = c .before .before .before .before .before .before .before .before .before .highest .ensures .below
+
+add-undone : tie.Need-add-undone Inv-loop μ-loop
+add-undone c =
+    let s = scriptOf (now (c .before .before .before .before .before .before .before .before .before .before .before .before .before .before .before .before .args .script)) in
+    let w = shaped-script (now (c .before .before .before .before .before .before .before .before .before .before .before .before .before .before .before .before .args .script)) (λ i. c .before .before .before .before .before .before .before .before .before .before .before .before .before .before .before .shared-slice-known .given i .fits) in
+    let v = shaped-net (now (c .before .before .before .before .before .before .before .before .before .before .before .before .before .before .before .before .args .net)) (λ i. c .before .before .before .before .before .before .before .before .before .before .before .before .before .before .slice-known .given i .fits) in
+    let p = c .before .before .before .before .before .before .before .before .before .before .before .before .before .before .before .before .pre .1 in
+    let n = netOf (now (c .before .before .before .before .before .before .before .before .before .before .before .before .before .before .before .before .args .net)) in
+    let g = c .before .before .before .before .before .before .before .before .before .before .before .before .before .loop .inv .2 w v p in
+    let below = c .before .before .before .before .before .before .before .before .before .before .highest .ensures .below in
+    let found = asking-here (c .before .before .before .before .before .before .before .before .before .before .before .before .before .before .before .before .args .t3) _ _ (c .before .before .before .before .before .before .before .before .before .before .before .before .before .loop .inv .1) _ (c .before .before .before .before .before .before .before .before .before .before .highest .ensures) (sym (c .before .before .before .before .before .before .before .none-after .ensures) ∙ not-false _ (c .before .before .before .before .before .before .if2 .left)) in
+    omega (arith, in-few s w n v (c .before .before .before .before .before .before .before .before .before .before .before .before .before .before .before .before .args .t3) (c .before .before .before .before .before .before .before .before .before .before .before .before .before .before .before .before .args .all) p _ _ _ _ g _ found (lt-ltb _ keyCount below))
+
+loop-less-2 : tie.Need-loop-less-2 Inv-loop μ-loop
+loop-less-2 c =
+    let a = c .before .before .before .before .before .before .before .before .before .before .before .before .before .loop .inv .1 in
+    turn-less _ _ _ _ (c .before .before .before .before .before .before .before .before .before .before .highest .ensures .below) (to-come-there (a .bound) _ _ (a .come) _ (c .before .before .before .before .before .before .before .before .before .before .highest .ensures)) (c .without2 .ensures) (search needs)
+
+loop-again-2 : tie.Need-loop-again-2 Inv-loop μ-loop
+loop-again-2 c =
+    let below = c .before .before .before .before .before .before .before .before .before .before .highest .ensures .below in
+    let found = asking-here (c .before .before .before .before .before .before .before .before .before .before .before .before .before .before .before .before .args .t3) _ _ (c .before .before .before .before .before .before .before .before .before .before .before .before .before .loop .inv .1) _ (c .before .before .before .before .before .before .before .before .before .before .highest .ensures) (sym (c .before .before .before .before .before .before .before .none-after .ensures) ∙ not-false _ (c .before .before .before .before .before .before .if2 .left)) in (
+      change-kept _ _ _ (c .before .before .before .before .undo-one .ensures .1) (c .before .before .before .before .before .before .before .before .before .before .before .before .before .loop .inv .0),
+      asking-first _ _,
+      λ w v p.
+          in-next _ w _ v _ _ p _ _ _ _ (c .before .before .before .before .before .before .before .before .before .before .before .before .before .loop .inv .2 w v p) _ found (lt-ltb _ keyCount below) _ _ (c .before .before .before .before .undo-one .ensures) _ (c .before .touched-too .ensures) _ (c .without2 .ensures),
+    )
 
 done-requires : tie.Need-done-requires Inv-loop μ-loop
 done-requires c κs = search needs
 
 same-length : tie.Need-same-length Inv-loop μ-loop
-same-length c = c .before .before .before .before .before .loop .inv .1 ∙ sym (net-size _ (c .before .before .before .before .before .before .before .before .pre .0 .formed))
+same-length c = c .before .before .before .loop .inv .0 ∙ sym (net-size _ (c .before .before .before .before .before .before .pre .0 .formed))
 
 returns : tie.Need-returns Inv-loop μ-loop
-returns c = in-done (scriptOf (now (c .before .before .before .before .before .before .before .before .args .script))) (shaped-script (now (c .before .before .before .before .before .before .before .before .args .script)) (λ i. c .before .before .before .before .before .before .before .shared-slice-known .given i .fits)) (netOf (now (c .before .before .before .before .before .before .before .before .args .net))) (shaped-net (now (c .before .before .before .before .before .before .before .before .args .net)) (λ i. c .before .before .before .before .before .before .slice-known .given i .fits)) (c .before .before .before .before .before .before .before .before .args .rows) (c .before .before .before .before .before .before .before .before .args .all) (c .before .before .before .before .before .before .before .before .pre .1) _ _ _ _ (c .before .before .before .before .before .loop .inv .2 (shaped-script (now (c .before .before .before .before .before .before .before .before .args .script)) (λ i. c .before .before .before .before .before .before .before .shared-slice-known .given i .fits)) (shaped-net (now (c .before .before .before .before .before .before .before .before .args .net)) (λ i. c .before .before .before .before .before .before .slice-known .given i .fits)) (c .before .before .before .before .before .before .before .before .pre .1)) _ (c .before .before .before .last-of .ensures) (sym (c .before .before .is-key .ensures) ∙ not-true _ (c .before .if1 .taken)) _ (c .done .ensures)
-
-undo-one-requires : tie.Need-undo-one-requires Inv-loop μ-loop
-undo-one-requires c κs =
-    let s = scriptOf (now (c .before .before .before .before .before .before .before .before .args .script)) in
-    let w = shaped-script (now (c .before .before .before .before .before .before .before .before .args .script)) (λ i. c .before .before .before .before .before .before .before .shared-slice-known .given i .fits) in
-    let v = shaped-net (now (c .before .before .before .before .before .before .before .before .args .net)) (λ i. c .before .before .before .before .before .before .slice-known .given i .fits) in
-    let p = c .before .before .before .before .before .before .before .before .pre .1 in (
-      (c .before .before .before .before .before .before .before .before .pre .0 .size, c .before .before .before .before .before .loop .inv .1),
-      in-may s w (netOf (now (c .before .before .before .before .before .before .before .before .args .net))) v (c .before .before .before .before .before .before .before .before .args .rows) (c .before .before .before .before .before .before .before .before .args .all) p _ _ _ _ (c .before .before .before .before .before .loop .inv .2 w v p) _ (c .before .before .before .last-of .ensures)
-          (sym (c .before .before .is-key .ensures) ∙ not-false _ (c .before .if1 .left)),
-    )
-
-touched-too-requires : tie.Need-touched-too-requires Inv-loop μ-loop
-touched-too-requires c κs = search needs
-
-without-requires : tie.Need-without-requires Inv-loop μ-loop
-without-requires c κs = ltb-true _ _ (sym (c .before .before .before .before .before .before .is-key .ensures) ∙ not-false _ (c .before .before .before .before .before .if1 .left))
-
-add-undone : tie.Need-add-undone Inv-loop μ-loop
-add-undone c = omega (arith, c .before .before .before .before .before .before .before .before .before .loop-test .taken)
-
-loop-less : tie.Need-loop-less Inv-loop μ-loop
-loop-less c = omega (arith, c .before .before .before .before .before .before .before .before .before .loop-test .taken)
-
-loop-again : tie.Need-loop-again Inv-loop μ-loop
-loop-again c = (omega (arith, c .before .before .before .before .before .before .before .before .before .loop-test .taken), change-kept _ _ _ (c .before .before .before .before .undo-one .ensures .1) (c .before .before .before .before .before .before .before .before .before .before .loop .inv .1), λ w v p. in-next _ w _ v _ _ p _ _ _ _ (c .before .before .before .before .before .before .before .before .before .before .loop .inv .2 w v p) _ (c .before .before .before .before .before .before .before .before .last-of .ensures) (sym (c .before .before .before .before .before .before .before .is-key .ensures) ∙ not-false _ (c .before .before .before .before .before .before .if1 .left)) _ _ (c .before .before .before .before .undo-one .ensures) _ (c .before .touched-too .ensures) _ (c .without .ensures))
-
-done-requires-2 : tie.Need-done-requires-2 Inv-loop μ-loop
-done-requires-2 c κs = search needs
-
-same-length-2 : tie.Need-same-length-2 Inv-loop μ-loop
-same-length-2 c = c .before .before .loop .inv .1 ∙ sym (net-size _ (c .before .before .before .before .before .pre .0 .formed))
-
-returns-2 : tie.Need-returns-2 Inv-loop μ-loop
-returns-2 c = in-last (scriptOf (now (c .before .before .before .before .before .args .script))) (shaped-script (now (c .before .before .before .before .before .args .script)) (λ i. c .before .before .before .before .shared-slice-known .given i .fits)) (netOf (now (c .before .before .before .before .before .args .net))) (shaped-net (now (c .before .before .before .before .before .args .net)) (λ i. c .before .before .before .slice-known .given i .fits)) (c .before .before .before .before .before .args .rows) (c .before .before .before .before .before .args .all) (c .before .before .before .before .before .pre .1) _ _ _ _ (c .before .before .loop .inv .2 (shaped-script (now (c .before .before .before .before .before .args .script)) (λ i. c .before .before .before .before .shared-slice-known .given i .fits)) (shaped-net (now (c .before .before .before .before .before .args .net)) (λ i. c .before .before .before .slice-known .given i .fits)) (c .before .before .before .before .before .pre .1)) (c .before .loop-test .left) _ (c .done2 .ensures)
+returns c =
+    let s = scriptOf (now (c .before .before .before .before .before .before .args .script)) in
+    let w = shaped-script (now (c .before .before .before .before .before .before .args .script)) (λ i. c .before .before .before .before .before .shared-slice-known .given i .fits) in
+    let v = shaped-net (now (c .before .before .before .before .before .before .args .net)) (λ i. c .before .before .before .before .slice-known .given i .fits) in
+    let p = c .before .before .before .before .before .before .pre .1 in
+    let n = netOf (now (c .before .before .before .before .before .before .args .net)) in
+    let g = c .before .before .before .loop .inv .2 w v p in
+    in-done s w n v (c .before .before .before .before .before .before .args .t3) (c .before .before .before .before .before .before .args .all) p _ _ _ _ g (key none) (asking-done _ _ _ (c .before .before .before .loop .inv .1) (sym (c .before .before .is-empty .ensures) ∙ not-false _ (c .before .if1 .left))) refl _ (c .done .ensures)
 
 pub undo-each-spec : {M : Type 1} → statement M
 undo-each-spec =
@@ -91,17 +141,21 @@ undo-each-spec =
     Inv-loop
     μ-loop
     loop-holds
-    last-of-requires
-    is-key-requires
-    done-requires
-    same-length
-    returns
-    undo-one-requires
-    touched-too-requires
+    is-empty-requires
+    highest-requires
+    cast-row
+    mul-row
+    array-copy-out-row
+    none-after-requires
     without-requires
-    add-undone
     loop-less
     loop-again
-    done-requires-2
-    same-length-2
-    returns-2)
+    undo-one-requires
+    touched-too-requires
+    without-requires-2
+    add-undone
+    loop-less-2
+    loop-again-2
+    done-requires
+    same-length
+    returns)

@@ -31,7 +31,7 @@ present-in-requires : tie.Need-present-in-requires
 present-in-requires c κs = (c .before .before .before .before .before .before .before .before .before .before .before .before .before .before .before .before .pre .0 .1)
 
 write-backward-requires : tie.Need-write-backward-requires
-write-backward-requires c κs = (c .before .before .before .before .before .before .before .before .before .before .before .before .before .before .before .before .before .before .pre .0 .1)
+write-backward-requires c κs = (c .before .before .before .before .before .before .before .before .before .before .before .before .before .before .before .before .before .before .pre .0 .1, c .before .before .before .before .before .before .before .before .before .before .before .before .before .before .slot-in .ensures)
 
 same-length : tie.Need-same-length
 same-length c = search needs

@@ -1,5 +1,5 @@
 -- `backward_on` meets its contract. Assumes nothing.
-use mathlib.Core.Path.{_≡_, sym, _∙_}
+use mathlib.Core.Path.{sym, _∙_}
 use denote.Ref.{now}
 use Rattle.step.specs.Tests.{holds-true, fails-false}
 use Rattle.machine.specs.OnBytes.{script-size, net-size, backward-refused, backward-written}
@@ -60,7 +60,7 @@ returns : tie.Need-returns
 returns c = backward-refused (now (c .before .before .before .before .before .before .before .before .before .before .before .before .before .before .before .before .before .before .before .before .before .before .before .before .before .args .script)) (now (c .before .before .before .before .before .before .before .before .before .before .before .before .before .before .before .before .before .before .before .before .before .before .before .before .before .args .net)) (c .before .before .before .before .before .before .before .before .before .before .before .before .before .before .before .before .before .before .before .before .before .before .before .before .before .pre) (λ i. c .before .before .before .before .before .before .before .before .before .before .before .before .before .before .before .before .before .before .before .before .before .before .before .before .shared-slice-known .given i .fits) (λ i. c .before .before .before .before .before .before .before .before .before .before .before .before .before .before .before .before .before .before .before .before .before .before .before .slice-known .given i .fits) (c .before .before .before .before .before .before .before .before .before .before .before .before .before .before .before .before .before .before .before .before .before .before .before .before .before .args .r) _ _ _ _ _ _ _ _ (c .before .before .before .before .before .before .before .before .before .before .before .before .before .before .before .before .before .before .before .before .slot-in .ensures) (c .before .before .before .before .before .before .before .before .before .before .before .before .before .before .before .before .before .before .node-in .ensures) (c .before .before .before .before .before .before .before .before .before .before .before .before .before .before .before .slot-in2 .ensures) (c .before .before .before .before .before .before .before .before .before .before .before .before .slot-in3 .ensures) (c .before .before .before .before .before .before .before .before .before .slot-in4 .ensures) (c .before .before .before .before .before .before .before .present-in .ensures) (c .before .before .before .before .before .is-unread .ensures) (c .before .before .before .before .backward-answer .ensures) (fails-false _ (sym (c .before .before .before .all-hold .ensures) ∙ c .before .enum-told2 .given .1)) _ (c .refused .ensures)
 
 write-backward-requires : tie.Need-write-backward-requires
-write-backward-requires c κs = net-size (now (c .before .before .before .before .before .before .before .before .before .before .before .before .before .before .before .before .before .before .before .before .before .before .before .before .before .args .script)) (now (c .before .before .before .before .before .before .before .before .before .before .before .before .before .before .before .before .before .before .before .before .before .before .before .before .before .args .net)) (c .before .before .before .before .before .before .before .before .before .before .before .before .before .before .before .before .before .before .before .before .before .before .before .before .before .pre)
+write-backward-requires c κs = (net-size (now (c .before .before .before .before .before .before .before .before .before .before .before .before .before .before .before .before .before .before .before .before .before .before .before .before .before .args .script)) (now (c .before .before .before .before .before .before .before .before .before .before .before .before .before .before .before .before .before .before .before .before .before .before .before .before .before .args .net)) (c .before .before .before .before .before .before .before .before .before .before .before .before .before .before .before .before .before .before .before .before .before .before .before .before .before .pre), c .before .before .before .before .before .before .before .before .before .before .before .before .before .before .before .before .before .before .before .before .slot-in .ensures)
 
 same-length-2 : tie.Need-same-length-2
 same-length-2 c = search needs

@@ -1,5 +1,5 @@
 -- `forward_answer` meets its contract: the first check that does not hold ends it. Assumes nothing.
-use mathlib.Core.Path.{_≡_, _∙_, sym, ap}
+use mathlib.Core.Path.{_∙_, sym}
 use Rattle.requests.specs.Checks.{refusal}
 use Rattle.products.specs.Products.{ready-true, unset-false}
 use Rattle.step.specs.Tests.{forwardTests, holds-true, fails-false}
@@ -8,6 +8,7 @@ use Rattle.step.proofs.forward.forward_answer.Statement.{statement}
 use Rattle.step.proofs.forward.forward_answer.Tie as tie
 use Rattle.step.proofs.forward.forward_answer.Reads as reads
 use Rattle.step.proofs.forward.forward_answer.Lts as lts
+use Rattle.images.proofs.net_image.is_free.Reads as is-free-reads
 use Rattle.products.proofs.evaluable.Reads as evaluable-reads
 use Rattle.products.proofs.target_of.Reads as target-of-reads
 use Rattle.step.proofs.checks.acts.Reads as acts-reads
@@ -112,6 +113,12 @@ returns-7 : tie.Need-returns-7
 unfolding forwardTests refusal
 returns-7 c = rw (holds-true _ (sym (c .before .before .before .before .before .before .before .before .before .before .before .before .before .before .before .before .before .before .before .before .before .before .is-live .ensures) ∙ c .before .before .before .before .before .before .before .before .before .before .before .before .before .before .before .before .before .before .before .before .enum-told .given .1), holds-true _ (sym (c .before .before .before .before .before .before .before .before .before .before .before .before .before .before .before .before .before .before .before .acts .ensures) ∙ c .before .before .before .before .before .before .before .before .before .before .before .before .before .before .before .before .before .enum-told3 .given .1), holds-true _ (sym (c .before .before .before .before .before .before .before .before .before .before .before .before .before .before .before .before .places-given .ensures) ∙ c .before .before .before .before .before .before .before .before .before .before .before .before .before .before .enum-told5 .given .1), ready-true _ _ (sym (c .before .before .before .before .before .before .before .before .before .before .before .before .evaluable .ensures) ∙ c .before .before .before .before .before .before .before .before .before .before .enum-told7 .given .1), ← c .before .before .before .before .before .before .before .before .before .target-of .ensures, holds-true _ (sym (c .before .before .before .before .before .before .before .before .target-present .ensures) ∙ c .before .before .before .before .before .before .enum-told9 .given .1), holds-true _ (sym (c .before .before .before .before .before .tuple-there .ensures) ∙ c .before .before .before .enum-told11 .given .1), fails-false _ (sym (c .before .before .template-met .ensures) ∙ c .enum-told14 .given .1))
 
+is-free-requires : tie.Need-is-free-requires
+is-free-requires c κs = search needs
+
+is-free-requires-2 : tie.Need-is-free-requires-2
+is-free-requires-2 c κs = search needs
+
 names-fresh-requires : tie.Need-names-fresh-requires
 names-fresh-requires c κs = search needs
 
@@ -123,11 +130,11 @@ enum-told-16 c = search needs
 
 returns-8 : tie.Need-returns-8
 unfolding forwardTests refusal
-returns-8 c = rw (holds-true _ (sym (c .before .before .before .before .before .before .before .before .before .before .before .before .before .before .before .before .before .before .before .before .before .before .before .before .before .is-live .ensures) ∙ c .before .before .before .before .before .before .before .before .before .before .before .before .before .before .before .before .before .before .before .before .before .before .before .enum-told .given .1), holds-true _ (sym (c .before .before .before .before .before .before .before .before .before .before .before .before .before .before .before .before .before .before .before .before .before .before .acts .ensures) ∙ c .before .before .before .before .before .before .before .before .before .before .before .before .before .before .before .before .before .before .before .before .enum-told3 .given .1), holds-true _ (sym (c .before .before .before .before .before .before .before .before .before .before .before .before .before .before .before .before .before .before .before .places-given .ensures) ∙ c .before .before .before .before .before .before .before .before .before .before .before .before .before .before .before .before .before .enum-told5 .given .1), ready-true _ _ (sym (c .before .before .before .before .before .before .before .before .before .before .before .before .before .before .before .evaluable .ensures) ∙ c .before .before .before .before .before .before .before .before .before .before .before .before .before .enum-told7 .given .1), ← c .before .before .before .before .before .before .before .before .before .before .before .before .target-of .ensures, holds-true _ (sym (c .before .before .before .before .before .before .before .before .before .before .before .target-present .ensures) ∙ c .before .before .before .before .before .before .before .before .before .enum-told9 .given .1), holds-true _ (sym (c .before .before .before .before .before .before .before .before .tuple-there .ensures) ∙ c .before .before .before .before .before .before .enum-told11 .given .1), holds-true _ (sym (c .before .before .before .before .before .template-met .ensures) ∙ c .before .before .before .enum-told13 .given .1), fails-false _ (sym (c .before .before .names-fresh .ensures) ∙ c .enum-told16 .given .1))
+returns-8 c = rw (holds-true _ (sym (c .before .before .before .before .before .before .before .before .before .before .before .before .before .before .before .before .before .before .before .before .before .before .before .before .before .before .before .is-live .ensures) ∙ c .before .before .before .before .before .before .before .before .before .before .before .before .before .before .before .before .before .before .before .before .before .before .before .before .before .enum-told .given .1), holds-true _ (sym (c .before .before .before .before .before .before .before .before .before .before .before .before .before .before .before .before .before .before .before .before .before .before .before .before .acts .ensures) ∙ c .before .before .before .before .before .before .before .before .before .before .before .before .before .before .before .before .before .before .before .before .before .before .enum-told3 .given .1), holds-true _ (sym (c .before .before .before .before .before .before .before .before .before .before .before .before .before .before .before .before .before .before .before .before .before .places-given .ensures) ∙ c .before .before .before .before .before .before .before .before .before .before .before .before .before .before .before .before .before .before .before .enum-told5 .given .1), ready-true _ _ (sym (c .before .before .before .before .before .before .before .before .before .before .before .before .before .before .before .before .before .evaluable .ensures) ∙ c .before .before .before .before .before .before .before .before .before .before .before .before .before .before .before .enum-told7 .given .1), ← c .before .before .before .before .before .before .before .before .before .before .before .before .before .before .target-of .ensures, holds-true _ (sym (c .before .before .before .before .before .before .before .before .before .before .before .before .before .target-present .ensures) ∙ c .before .before .before .before .before .before .before .before .before .before .before .enum-told9 .given .1), holds-true _ (sym (c .before .before .before .before .before .before .before .before .before .before .tuple-there .ensures) ∙ c .before .before .before .before .before .before .before .before .enum-told11 .given .1), holds-true _ (sym (c .before .before .before .before .before .before .before .template-met .ensures) ∙ c .before .before .before .before .before .enum-told13 .given .1), ← c .before .before .before .before .is-free .ensures, ← c .before .before .before .is-free2 .ensures, fails-false _ (sym (c .before .before .names-fresh .ensures) ∙ c .enum-told16 .given .1))
 
 returns-9 : tie.Need-returns-9
 unfolding forwardTests refusal
-returns-9 c = rw (holds-true _ (sym (c .before .before .before .before .before .before .before .before .before .before .before .before .before .before .before .before .before .before .before .before .before .before .before .before .before .is-live .ensures) ∙ c .before .before .before .before .before .before .before .before .before .before .before .before .before .before .before .before .before .before .before .before .before .before .before .enum-told .given .1), holds-true _ (sym (c .before .before .before .before .before .before .before .before .before .before .before .before .before .before .before .before .before .before .before .before .before .before .acts .ensures) ∙ c .before .before .before .before .before .before .before .before .before .before .before .before .before .before .before .before .before .before .before .before .enum-told3 .given .1), holds-true _ (sym (c .before .before .before .before .before .before .before .before .before .before .before .before .before .before .before .before .before .before .before .places-given .ensures) ∙ c .before .before .before .before .before .before .before .before .before .before .before .before .before .before .before .before .before .enum-told5 .given .1), ready-true _ _ (sym (c .before .before .before .before .before .before .before .before .before .before .before .before .before .before .before .evaluable .ensures) ∙ c .before .before .before .before .before .before .before .before .before .before .before .before .before .enum-told7 .given .1), ← c .before .before .before .before .before .before .before .before .before .before .before .before .target-of .ensures, holds-true _ (sym (c .before .before .before .before .before .before .before .before .before .before .before .target-present .ensures) ∙ c .before .before .before .before .before .before .before .before .before .enum-told9 .given .1), holds-true _ (sym (c .before .before .before .before .before .before .before .before .tuple-there .ensures) ∙ c .before .before .before .before .before .before .enum-told11 .given .1), holds-true _ (sym (c .before .before .before .before .before .template-met .ensures) ∙ c .before .before .before .enum-told13 .given .1), holds-true _ (sym (c .before .before .names-fresh .ensures) ∙ c .enum-told15 .given .1))
+returns-9 c = rw (holds-true _ (sym (c .before .before .before .before .before .before .before .before .before .before .before .before .before .before .before .before .before .before .before .before .before .before .before .before .before .before .before .is-live .ensures) ∙ c .before .before .before .before .before .before .before .before .before .before .before .before .before .before .before .before .before .before .before .before .before .before .before .before .before .enum-told .given .1), holds-true _ (sym (c .before .before .before .before .before .before .before .before .before .before .before .before .before .before .before .before .before .before .before .before .before .before .before .before .acts .ensures) ∙ c .before .before .before .before .before .before .before .before .before .before .before .before .before .before .before .before .before .before .before .before .before .before .enum-told3 .given .1), holds-true _ (sym (c .before .before .before .before .before .before .before .before .before .before .before .before .before .before .before .before .before .before .before .before .before .places-given .ensures) ∙ c .before .before .before .before .before .before .before .before .before .before .before .before .before .before .before .before .before .before .before .enum-told5 .given .1), ready-true _ _ (sym (c .before .before .before .before .before .before .before .before .before .before .before .before .before .before .before .before .before .evaluable .ensures) ∙ c .before .before .before .before .before .before .before .before .before .before .before .before .before .before .before .enum-told7 .given .1), ← c .before .before .before .before .before .before .before .before .before .before .before .before .before .before .target-of .ensures, holds-true _ (sym (c .before .before .before .before .before .before .before .before .before .before .before .before .before .target-present .ensures) ∙ c .before .before .before .before .before .before .before .before .before .before .before .enum-told9 .given .1), holds-true _ (sym (c .before .before .before .before .before .before .before .before .before .before .tuple-there .ensures) ∙ c .before .before .before .before .before .before .before .before .enum-told11 .given .1), holds-true _ (sym (c .before .before .before .before .before .before .before .template-met .ensures) ∙ c .before .before .before .before .before .enum-told13 .given .1), ← c .before .before .before .before .is-free .ensures, ← c .before .before .before .is-free2 .ensures, holds-true _ (sym (c .before .before .names-fresh .ensures) ∙ c .enum-told15 .given .1))
 
 pub forward-answer-spec : {M : Type 1} → statement M
 forward-answer-spec =
@@ -162,6 +169,8 @@ forward-answer-spec =
     enum-told-13
     enum-told-14
     returns-7
+    is-free-requires
+    is-free-requires-2
     names-fresh-requires
     enum-told-15
     enum-told-16
