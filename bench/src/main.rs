@@ -17,7 +17,7 @@ use rewind::call;
 use stack::stack_of_calls;
 use std::fs::File;
 use std::hint::black_box;
-use std::path::Path;
+use std::path::{Path, PathBuf};
 use std::process::{Command, Stdio};
 use std::time::Instant;
 use yardstick::{file, Yardstick};
@@ -36,11 +36,6 @@ const CALLS_OF_YARDSTICK: usize = 2 * CALLS;
 /// Measurements are short, many, and taken by turns, and the best of each
 /// counts: what else runs on the machine only adds.
 const ROUNDS: usize = 40;
-
-fn stream(images: &Images, unit: &[u8], requests: usize) -> Vec<u8> {
-    let turns = requests / (unit.len() / 6);
-    [&images.script[..], &images.net, &unit.repeat(turns)].concat()
-}
 
 /// `rewind`, or another that does the same.
 struct Program<'a> {
@@ -74,12 +69,41 @@ impl Program<'_> {
     }
 }
 
-/// The least of the one, and of the other where there is another.
-fn best(one: impl Fn() -> f64, other: impl Fn() -> Option<f64>) -> (f64, Option<f64>) {
-    let mut least = (one(), other());
-    for _ in 1..ROUNDS {
-        least.0 = least.0.min(one());
-        least.1 = least.1.zip(other()).map(|(least, again)| least.min(again));
+/// What was least, of the proved program and of the yardstick where there is
+/// one.
+#[derive(Clone, Copy)]
+struct Least {
+    proved: f64,
+    yardstick: Option<f64>,
+}
+
+impl Least {
+    const NONE: Least = Least {
+        proved: f64::INFINITY,
+        yardstick: None,
+    };
+
+    fn take(&mut self, proved: f64, yardstick: Option<f64>) {
+        let other = self.yardstick.unwrap_or(f64::INFINITY);
+        self.proved = self.proved.min(proved);
+        self.yardstick = yardstick.map(|figure| figure.min(other));
+    }
+
+    /// How many times the yardstick's time the proved program takes.
+    fn slower(&self) -> Option<f64> {
+        self.yardstick.map(|yardstick| self.proved / yardstick)
+    }
+}
+
+/// The least of each, measured round after round, so that the measurements of
+/// one are spread over the whole time.
+fn least_of<T>(these: &[T], measure: impl Fn(&T) -> (f64, Option<f64>)) -> Vec<Least> {
+    let mut least = vec![Least::NONE; these.len()];
+    for _ in 0..ROUNDS {
+        for (it, least) in these.iter().zip(&mut least) {
+            let (proved, yardstick) = measure(it);
+            least.take(proved, yardstick);
+        }
     }
     least
 }
@@ -93,6 +117,7 @@ fn column(figure: Option<f64>, width: usize, places: usize) -> String {
 }
 
 /// What is measured: a net, and requests after which it is as it was.
+#[derive(Clone, Copy)]
 struct Sort<'a> {
     name: &'a str,
     images: &'a Images,
@@ -109,51 +134,73 @@ impl Sort<'_> {
         format!("{:34} {records:7} {events:6}", self.name)
     }
 
-    /// A row of requests a second.
-    fn compare_programs(&self, yardstick: Option<&Yardstick>) {
-        let proved = Program {
-            path: Path::new(PROGRAM),
-            words: &[],
-        };
-        let yardstick = yardstick.map(|yardstick| Program {
-            path: &yardstick.program,
-            words: &["rewind"],
-        });
-        let short = stream(self.images, self.unit, SHORT);
-        let (second, second_lines) = second_speed(&short);
-        let short = file("bench.short", &short);
-        let mut programs = [Some(&proved), yardstick.as_ref()].into_iter().flatten();
-        let same = programs.all(|program| program.lines(&short) == second_lines);
+    /// Its stream as a file of that name; how many requests it has.
+    fn stream(&self, name: &str, requests: usize) -> Stream {
+        let images = [&self.images.script[..], &self.images.net].concat();
+        let turns = requests / (self.unit.len() / 6);
+        let bytes = [images, self.unit.repeat(turns)].concat();
+        Stream {
+            requests: (turns * self.unit.len() / 6) as f64,
+            path: file(name, &bytes),
+            bytes,
+        }
+    }
+}
 
-        let long = stream(self.images, self.unit, LONG);
-        let requests = (long.len() - stream(self.images, self.unit, 0).len()) as f64 / 6.0;
-        let long = file("bench.long", &long);
-        let (seconds, yardstick) = best(
-            || proved.seconds(&long, 1),
-            || Some(yardstick.as_ref()?.seconds(&long, RUNS_OF_YARDSTICK)),
-        );
+struct Stream {
+    requests: f64,
+    path: PathBuf,
+    bytes: Vec<u8>,
+}
+
+/// Rows of requests a second.
+fn compare_programs(sorts: &[Sort], yardstick: Option<&Yardstick>) {
+    let proved = Program {
+        path: Path::new(PROGRAM),
+        words: &[],
+    };
+    let yardstick = yardstick.map(|yardstick| Program {
+        path: &yardstick.program,
+        words: &["rewind"],
+    });
+    let long = |number: usize| sorts[number].stream(&format!("bench.{number}"), LONG);
+    let streams: Vec<Stream> = (0..sorts.len()).map(long).collect();
+    let least = least_of(&streams, |stream| {
+        let other = yardstick.as_ref();
+        let other = other.map(|it| it.seconds(&stream.path, RUNS_OF_YARDSTICK));
+        (proved.seconds(&stream.path, 1), other)
+    });
+    for ((sort, stream), least) in sorts.iter().zip(&streams).zip(&least) {
+        let short = sort.stream("bench.short", SHORT);
+        let (second, second_lines) = second_speed(&short.bytes);
+        let mut programs = [Some(&proved), yardstick.as_ref()].into_iter().flatten();
+        let same = programs.all(|program| program.lines(&short.path) == second_lines);
+        let speed = |seconds: f64| stream.requests / seconds;
         println!(
             "{} {:11.0} {second:8.0} {:8.0} {} {}{}",
-            self.head(),
-            requests / seconds,
-            requests / seconds / second,
-            column(yardstick.map(|least| requests / least), 11, 0),
-            column(yardstick.map(|least| seconds / least), 7, 1),
+            sort.head(),
+            speed(least.proved),
+            speed(least.proved) / second,
+            column(least.yardstick.map(speed), 11, 0),
+            column(least.slower(), 7, 1),
             if same { "" } else { "  THEIR LINES DIFFER" }
         );
     }
+}
 
-    /// A row of microseconds of a call.
-    fn compare_calls(&self, yardstick: Option<&Yardstick>) {
-        let (library, yardstick) = best(
-            || call_time(self.images, self.unit),
-            || Some(yardstick?.call_time(self.images, self.unit, CALLS_OF_YARDSTICK)),
-        );
+/// Rows of microseconds of a call.
+fn compare_calls(sorts: &[Sort], yardstick: Option<&Yardstick>) {
+    let least = least_of(sorts, |sort| {
+        let time = |it: &Yardstick| it.call_time(sort.images, sort.unit, CALLS_OF_YARDSTICK);
+        (call_time(sort.images, sort.unit), yardstick.map(time))
+    });
+    for (sort, least) in sorts.iter().zip(&least) {
         println!(
-            "{} {library:11.2} {} {}",
-            self.head(),
-            column(yardstick, 9, 2),
-            column(yardstick.map(|least| library / least), 7, 1)
+            "{} {:11.2} {} {}",
+            sort.head(),
+            least.proved,
+            column(least.yardstick, 9, 2),
+            column(least.slower(), 7, 1)
         );
     }
 }
@@ -174,6 +221,12 @@ fn call_time(images: &Images, unit: &[u8]) -> f64 {
         black_box(call(&images.script, &mut net, request));
     }
     began.elapsed().as_secs_f64() * 1e6 / CALLS as f64
+}
+
+/// A net with about so many past events.
+fn with_events(events: usize) -> Images {
+    let near = |i: &Images| (i.events().abs_diff(events) <= 1).then_some(());
+    search(4, near).0
 }
 
 fn main() {
@@ -201,18 +254,14 @@ fn main() {
     ];
 
     println!("\nrequests a second                  records events      rewind   second   faster   yardstick  slower");
-    for sort in &sorts {
-        sort.compare_programs(yardstick);
-    }
+    compare_programs(&sorts, yardstick);
+    let by_events: Vec<Images> = (0..=60).step_by(10).map(with_events).collect();
+    let refusals = by_events
+        .iter()
+        .map(|i| sort("refused with 3", i, &refused));
+    let calls: Vec<Sort> = sorts.iter().copied().chain(refusals).collect();
     println!("\nmicroseconds of a call             records events     library yardstick  slower");
-    for sort in &sorts {
-        sort.compare_calls(yardstick);
-    }
-    for events in (0..=60).step_by(10) {
-        let near = |i: &Images| (i.events().abs_diff(events) <= 1).then_some(());
-        let (images, ()) = search(4, near);
-        sort("refused with 3", &images, &refused).compare_calls(yardstick);
-    }
+    compare_calls(&calls, yardstick);
     println!("\nbytes of stack of a call           records events     library");
     for sort in &sorts {
         println!(

@@ -1,6 +1,6 @@
 // The net image, taken apart and put together.
 ghost use mathlib.Core.Path.{_≡_};
-ghost use mathlib.Core.Bool.{_&&_};
+ghost use mathlib.Core.Bool.{true, _&&_};
 ghost use mathlib.Core.List.{[], _∷_, _++_};
 ghost use Prim.Native.Nat.{_+_, _<_, _≤_};
 ghost use lib.ListN.{length, getD};
@@ -9,7 +9,7 @@ ghost use Rattle.laws.specs.Lists.{tab};
 ghost use Rattle.laws.specs.Parts.{flat};
 ghost use Rattle.laws.specs.Words.{word};
 ghost use Rattle.names.specs.Names.{key, node};
-ghost use Rattle.images.specs.Head.{byte};
+ghost use Rattle.images.specs.Head.{byte, restZero};
 ghost use Rattle.images.specs.Net.{datum0, isTuple, nodeOrCount, firstBytes, slotBytes, netBytes, netWritten, writtenInto, isUnset, isSet, isDatum, variablesInRange, fieldOrBlank, dataFill, madeAre, refsAre, madeInRange, refsInRange, freeInRange, processInRange, tupleInRange, slotInRange, freeSlot, indexOf, slotWith, slotAt, isFree};
 ghost use Rattle.images.specs.InPlace.{slotPut, presentPut};
 ghost use Rattle.images.specs.Read.{datumOf, slotOf, slotFormed, slotsFormed, netOf, netFormed, badNet, readNet};
@@ -280,23 +280,19 @@ fn refs_in_range(p: &[u8]) -> bool
     four.is_key_or_none()
 }
 
+// A free slot is 0 throughout; of its fourteen words the last is among the bytes that no slot uses.
 fn free_in_range(p: &[u8]) -> bool
-    requires { ⌜ (length (now p) ≡ 56) × (byte (now p) 0 ≡ 0) ⌝ }
+    requires { ⌜ (length (now p) ≡ 56) × (byte (now p) 0 ≡ 0) × (restZero 56 (now p) ≡ true) ⌝ }
     ensures { λ r. ⌜ r ≡ freeInRange (slotOf (now (p .entry))) ⌝ }
 {
-    if p[1] != 0 {
-        return false;
+    let mut j: usize = 0;
+    while j < 13 {
+        if laws::word_at(p, 4 * j) != 0 {
+            return false;
+        }
+        j += 1;
     }
-    if p[2] != 0 {
-        return false;
-    }
-    if !makes_only(0, p) {
-        return false;
-    }
-    if !refers_only(0, p) {
-        return false;
-    }
-    data_fill(0, p)
+    true
 }
 
 fn process_in_range(p: &[u8]) -> bool
@@ -341,8 +337,9 @@ fn tuple_in_range(p: &[u8]) -> bool
     data_fill(count, p)
 }
 
+// Of bytes whose unused ones are 0.
 fn slot_in_range(p: &[u8]) -> bool
-    requires { ⌜ length (now p) ≡ 56 ⌝ }
+    requires { ⌜ (length (now p) ≡ 56) × (restZero 56 (now p) ≡ true) ⌝ }
     ensures { λ r. ⌜ r ≡ slotInRange (slotOf (now (p .entry))) ⌝ }
 {
     let kind = p[0];

@@ -18,7 +18,7 @@ unfolding slotFormed
 returns c = rw (sym (c .before .rest-is-zero .ensures) ∙ not-true _ (c .if1 .taken))
 
 slot-in-range-requires : tie.Need-slot-in-range-requires
-slot-in-range-requires c κs = search needs
+slot-in-range-requires c κs = (c .before .before .before .pre, sym (c .before .rest-is-zero .ensures) ∙ not-false _ (c .if1 .left))
 
 returns-2 : tie.Need-returns-2
 unfolding slotFormed
