@@ -25,17 +25,18 @@ use yardstick::{file, Yardstick};
 const PROGRAM: &str = concat!(env!("CARGO_MANIFEST_DIR"), "/../target/bin/rewind");
 /// Requests of a stream for `rewind` and the yardstick, and for the second
 /// program, which reads and accepts its images anew for each.
-const LONG: usize = 1_000_000;
+const LONG: usize = 2_000_000;
 const SHORT: usize = 20_000;
 /// Calls of one measurement.
-const CALLS: usize = 5_000;
+const CALLS: usize = 1_000;
 /// The yardstick does so many times as much in one measurement, so that it is
 /// watched for about as long as the proved program.
 const RUNS_OF_YARDSTICK: usize = 4;
 const CALLS_OF_YARDSTICK: usize = 2 * CALLS;
 /// Measurements are short, many, and taken by turns, and the best of each
 /// counts: what else runs on the machine only adds.
-const ROUNDS: usize = 40;
+const ROUNDS_OF_STREAMS: usize = 20;
+const ROUNDS_OF_CALLS: usize = 200;
 
 /// `rewind`, or another that does the same.
 struct Program<'a> {
@@ -97,9 +98,13 @@ impl Least {
 
 /// The least of each, measured round after round, so that the measurements of
 /// one are spread over the whole time.
-fn least_of<T>(these: &[T], measure: impl Fn(&T) -> (f64, Option<f64>)) -> Vec<Least> {
+fn least_of<T>(
+    rounds: usize,
+    these: &[T],
+    measure: impl Fn(&T) -> (f64, Option<f64>),
+) -> Vec<Least> {
     let mut least = vec![Least::NONE; these.len()];
-    for _ in 0..ROUNDS {
+    for _ in 0..rounds {
         for (it, least) in these.iter().zip(&mut least) {
             let (proved, yardstick) = measure(it);
             least.take(proved, yardstick);
@@ -165,7 +170,7 @@ fn compare_programs(sorts: &[Sort], yardstick: Option<&Yardstick>) {
     });
     let long = |number: usize| sorts[number].stream(&format!("bench.{number}"), LONG);
     let streams: Vec<Stream> = (0..sorts.len()).map(long).collect();
-    let least = least_of(&streams, |stream| {
+    let least = least_of(ROUNDS_OF_STREAMS, &streams, |stream| {
         let other = yardstick.as_ref();
         let other = other.map(|it| it.seconds(&stream.path, RUNS_OF_YARDSTICK));
         (proved.seconds(&stream.path, 1), other)
@@ -190,7 +195,7 @@ fn compare_programs(sorts: &[Sort], yardstick: Option<&Yardstick>) {
 
 /// Rows of microseconds of a call.
 fn compare_calls(sorts: &[Sort], yardstick: Option<&Yardstick>) {
-    let least = least_of(sorts, |sort| {
+    let least = least_of(ROUNDS_OF_CALLS, sorts, |sort| {
         let time = |it: &Yardstick| it.call_time(sort.images, sort.unit, CALLS_OF_YARDSTICK);
         (call_time(sort.images, sort.unit), yardstick.map(time))
     });
