@@ -52,7 +52,7 @@ tupleThere kind t l = meetsTuple kind ⇒ (eqb (t .kind) 3 && eqb (t .locality .
 unfoldable pub templateMet : Action → List Datum → Slot → Bool
 templateMet a vars t = meetsTuple (a .kind) ⇒ meets vars a (t .count) (t .contents)
 
--- 11: "a fresh key not free, both equal, or fresh locality below 8 or present"
+-- 11: "a fresh key not free, both equal, or fresh locality below 8 or present", by whether the slots of the two keys are free
 unfoldable pub secondFresh : ℕ → Bool → Request → Bool
 secondFresh kind free r = makesSecond kind ⇒ (free && not (eqb (r .first .0) (r .second .0)))
 
