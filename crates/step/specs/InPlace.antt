@@ -1,14 +1,14 @@
 -- A change written in place, put after put into the bytes of a net: what it leaves are the bytes of the net once the change is written.
 -- In order: the bytes after a change (`changeBytes`); of a net's bytes (`put-bytes`, `change-bytes`); they stay as many (`slot-kept`,
--- `present-kept`); what a forward and a backward step write (`forward-written`, `backward-written`), their third
--- slot by cases (`makes-another`, `takes-tuple`, `makes-no-other`; `frees-another`, `gives-tuple`, `frees-no-other`), and what is freed (`freed-both`).
+-- `present-kept`); what a forward and a backward step write (`forward-written`, `backward-written`), the third slot
+-- of either (`puts-one`, `puts-two`, `puts-none`), and what is freed (`freed-both`).
 -- Assumes nothing.
 use Prim.Native.Nat.{ℕ}
 use mathlib.Core.Path.{_≡_, refl, ap, _∙_}
-use mathlib.Core.Bool.{true, false}
+use mathlib.Core.Bool.{Bool, true, false}
 use mathlib.Core.List.{List}
 use lib.ListN.{length}
-use Rattle.laws.specs.Choice.{cases}
+use Rattle.laws.specs.Choice.{pick, cases}
 use Rattle.names.specs.Names.{keyCount, isKey}
 use Rattle.names.specs.Localities.{localities}
 use Rattle.names.specs.declared.Key.{Key}
@@ -18,10 +18,10 @@ use Rattle.images.specs.InPlace.{slotPut, presentPut, length-slot-put, length-p
 use Rattle.images.specs.declared.Action.{Action}
 use Rattle.images.specs.declared.Slot.{Slot}
 use Rattle.images.specs.declared.Net.{Net}
-use Rattle.products.specs.Body.{bodyOf, fresh, liveProcess}
-use Rattle.products.specs.Products.{isIn, makesSecond, continuedBy, secondSlot}
+use Rattle.products.specs.Body.{bodyOf, liveProcess}
+use Rattle.products.specs.Products.{continuedBy}
 use Rattle.requests.specs.declared.Request.{Request}
-use Rattle.step.specs.Change.{Put, Change, putIn, applied}
+use Rattle.step.specs.Change.{Put, Change, nowhere, putIn, applied}
 use Rattle.step.specs.Forward.{pastSlot, forwardOther, presentAfter, forwardDone}
 use Rattle.step.specs.Backward.{backwardOther, presentBefore, freedAt, backwardDone}
 use Rattle.step.specs.Written.{put-length}
@@ -82,35 +82,21 @@ module _ (b b₁ b₂ b₃ b₄ : List ℕ) (e f : Slot) (p : Localities) where
       let s₃ = is₃ ∙ ap (putBytes (backwardOther a x t)) s₂ in
       is₄ ∙ (λ i. presentPut (is-p i) (s₃ i))
 
--- a step makes a second thing, or takes a tuple, or neither
-module _ (a : Action) (x t : Slot) (r : Request) (z : Slot) (b c : List ℕ) where
-  pub makes-another : makesSecond (a .kind) ≡ true → z ≡ secondSlot a (bodyOf x) → c ≡ slotPut (r .second) z b → c ≡ putBytes (forwardOther a x t r) b
-  unfolding forwardOther
-  makes-another h is-z is-c = rw h (is-c ∙ ap (λ (y : Slot). slotPut (r .second) y b) is-z)
+-- the third slot: one of two puts, or none
+module _ (one two : Bool) (p q : Put) where
+  abbrev pub third : Put
+  third = pick one p (pick two q nowhere)
 
-  pub takes-tuple : makesSecond (a .kind) ≡ false → isIn (a .kind) ≡ true → z ≡ fresh 4 (bodyOf t) → c ≡ slotPut (r .used) z b
-      → c ≡ putBytes (forwardOther a x t r) b
-  unfolding forwardOther
-  takes-tuple h k is-z is-c = rw (h, k) (is-c ∙ ap (λ (y : Slot). slotPut (r .used) y b) is-z)
+  module _ (z : Slot) (b c : List ℕ) where
+    pub puts-one : one ≡ true → z ≡ p .slot → c ≡ slotPut (p .key) z b → c ≡ putBytes third b
+    puts-one h is-z is-c = rw h (is-c ∙ ap (λ (y : Slot). slotPut (p .key) y b) is-z)
 
-pub makes-no-other : (a : Action) (x t : Slot) (r : Request) (b : List ℕ) → makesSecond (a .kind) ≡ false → isIn (a .kind) ≡ false → b ≡ putBytes (forwardOther a x t r) b
-unfolding forwardOther slotPut
-makes-no-other a x t r b h k = rw (h, k) refl
+    pub puts-two : one ≡ false → two ≡ true → z ≡ q .slot → c ≡ slotPut (q .key) z b → c ≡ putBytes third b
+    puts-two h k is-z is-c = rw (h, k) (is-c ∙ ap (λ (y : Slot). slotPut (q .key) y b) is-z)
 
--- undone, the second thing is free, or the tuple live, or there is neither
-module _ (a : Action) (x t : Slot) (z : Slot) (b c : List ℕ) where
-  pub frees-another : isKey (x .second) ≡ true → z ≡ freeSlot → c ≡ slotPut (x .second) z b → c ≡ putBytes (backwardOther a x t) b
-  unfolding backwardOther
-  frees-another h is-z is-c = rw h (is-c ∙ ap (λ (y : Slot). slotPut (x .second) y b) is-z)
-
-  pub gives-tuple : isKey (x .second) ≡ false → isIn (a .kind) ≡ true → z ≡ fresh 3 (bodyOf t) → c ≡ slotPut (x .used) z b
-      → c ≡ putBytes (backwardOther a x t) b
-  unfolding backwardOther
-  gives-tuple h k is-z is-c = rw (h, k) (is-c ∙ ap (λ (y : Slot). slotPut (x .used) y b) is-z)
-
-pub frees-no-other : (a : Action) (x t : Slot) (b : List ℕ) → isKey (x .second) ≡ false → isIn (a .kind) ≡ false → b ≡ putBytes (backwardOther a x t) b
-unfolding backwardOther slotPut
-frees-no-other a x t b h k = rw (h, k) refl
+  pub puts-none : (b : List ℕ) → one ≡ false → two ≡ false → b ≡ putBytes third b
+  unfolding slotPut
+  puts-none b h k = rw (h, k) refl
 
 pub freed-both : (a : Action) (x first second t : Slot) (present : Localities) (k : Key) (one both : Localities) → one ≡ freedAt (localities 0) (x .first) first
     → both ≡ freedAt one (x .second) second → both ≡ backwardDone a x first second t present k .touched

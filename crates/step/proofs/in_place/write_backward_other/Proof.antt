@@ -2,7 +2,13 @@
 use mathlib.Core.Path.{_∙_, sym}
 use denote.Ref.{now}
 use borrow.Author.Tests.{eq-eqb, ne-eqb}
-use Rattle.step.specs.InPlace.{frees-another, gives-tuple, frees-no-other}
+use Rattle.names.specs.Names.{isKey}
+use Rattle.images.specs.Net.{freeSlot}
+use Rattle.products.specs.Body.{bodyOf, liveTuple}
+use Rattle.products.specs.Products.{isIn}
+use Rattle.step.specs.Change.{put}
+use Rattle.step.specs.Backward.{backwardOther}
+use Rattle.step.specs.InPlace.{puts-one, puts-two, puts-none}
 use borrow.Author.Needs.{needs}
 use Rattle.step.proofs.in_place.write_backward_other.Statement.{statement}
 use Rattle.step.proofs.in_place.write_backward_other.Tie as tie
@@ -26,7 +32,10 @@ same-length : tie.Need-same-length
 same-length c = search needs
 
 returns : tie.Need-returns
-returns c = frees-another (c .before .before .before .before .before .before .before .before .before .args .a) (c .before .before .before .before .before .before .before .before .before .args .x) (c .before .before .before .before .before .before .before .before .before .args .t) _ _ _ (sym (c .before .before .before .before .before .before .is-key .ensures) ∙ c .before .before .before .before .before .if1 .taken) (c .before .before .before .before .free-slot .ensures) (c .before .before .put-slot .ensures)
+unfolding backwardOther
+returns c =
+    let given = c .before .before .before .before .before .before .before .before .before .args in
+    puts-one (isKey (given .x .second)) (isIn (given .a .kind)) (put (given .x .second) freeSlot) (put (given .x .used) (liveTuple (bodyOf (given .t)))) _ _ _ (sym (c .before .before .before .before .before .before .is-key .ensures) ∙ c .before .before .before .before .before .if1 .taken) (c .before .before .before .before .free-slot .ensures) (c .before .before .put-slot .ensures)
 
 as-new-requires : tie.Need-as-new-requires
 as-new-requires c κs = search needs
@@ -38,10 +47,16 @@ same-length-2 : tie.Need-same-length-2
 same-length-2 c = search needs
 
 returns-2 : tie.Need-returns-2
-returns-2 c = gives-tuple (c .before .before .before .before .before .before .before .before .before .before .before .before .args .a) (c .before .before .before .before .before .before .before .before .before .before .before .before .args .x) (c .before .before .before .before .before .before .before .before .before .before .before .before .args .t) _ _ _ (sym (c .before .before .before .before .before .before .before .before .before .is-key .ensures) ∙ c .before .before .before .before .before .before .before .before .if1 .left) (eq-eqb _ _ (c .before .before .before .before .before .before .if2 .taken)) (c .before .before .before .before .before .as-new .ensures) (c .before .before .put-slot2 .ensures)
+unfolding backwardOther
+returns-2 c =
+    let given = c .before .before .before .before .before .before .before .before .before .before .before .before .args in
+    puts-two (isKey (given .x .second)) (isIn (given .a .kind)) (put (given .x .second) freeSlot) (put (given .x .used) (liveTuple (bodyOf (given .t)))) _ _ _ (sym (c .before .before .before .before .before .before .before .before .before .is-key .ensures) ∙ c .before .before .before .before .before .before .before .before .if1 .left) (eq-eqb _ _ (c .before .before .before .before .before .before .if2 .taken)) (c .before .before .before .before .before .as-new .ensures) (c .before .before .put-slot2 .ensures)
 
 returns-3 : tie.Need-returns-3
-returns-3 c = frees-no-other (c .before .before .before .before .before .before .args .a) (c .before .before .before .before .before .before .args .x) (c .before .before .before .before .before .before .args .t) (now (c .before .before .before .before .before .before .args .net)) (sym (c .before .before .before .is-key .ensures) ∙ c .before .before .if1 .left) (ne-eqb _ _ (c .if2 .left))
+unfolding backwardOther
+returns-3 c =
+    let given = c .before .before .before .before .before .before .args in
+    puts-none (isKey (given .x .second)) (isIn (given .a .kind)) (put (given .x .second) freeSlot) (put (given .x .used) (liveTuple (bodyOf (given .t)))) (now (given .net)) (sym (c .before .before .before .is-key .ensures) ∙ c .before .before .if1 .left) (ne-eqb _ _ (c .if2 .left))
 
 pub write-backward-other-spec : {M : Type 1} → statement M
 write-backward-other-spec =

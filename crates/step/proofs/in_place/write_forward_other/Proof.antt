@@ -2,7 +2,11 @@
 use mathlib.Core.Path.{_∙_, sym}
 use denote.Ref.{now}
 use borrow.Author.Tests.{eq-eqb, ne-eqb}
-use Rattle.step.specs.InPlace.{makes-another, takes-tuple, makes-no-other}
+use Rattle.products.specs.Body.{bodyOf, fresh}
+use Rattle.products.specs.Products.{isIn, makesSecond, secondSlot}
+use Rattle.step.specs.Change.{put}
+use Rattle.step.specs.Forward.{forwardOther}
+use Rattle.step.specs.InPlace.{puts-one, puts-two, puts-none}
 use borrow.Author.Needs.{needs}
 use Rattle.step.proofs.in_place.write_forward_other.Statement.{statement}
 use Rattle.step.proofs.in_place.write_forward_other.Tie as tie
@@ -26,7 +30,10 @@ same-length : tie.Need-same-length
 same-length c = search needs
 
 returns : tie.Need-returns
-returns c = makes-another (c .before .before .before .before .before .before .before .before .before .args .a) (c .before .before .before .before .before .before .before .before .before .args .x) (c .before .before .before .before .before .before .before .before .before .args .t) (c .before .before .before .before .before .before .before .before .before .args .r) _ _ _ (sym (c .before .before .before .before .before .before .before .makes-second .ensures) ∙ c .before .before .before .before .before .before .if1 .taken) (c .before .before .before .before .before .second-made .ensures) (c .before .before .put-slot .ensures)
+unfolding forwardOther
+returns c =
+    let given = c .before .before .before .before .before .before .before .before .before .args in
+    puts-one (makesSecond (given .a .kind)) (isIn (given .a .kind)) (put (given .r .second) (secondSlot (given .a) (bodyOf (given .x)))) (put (given .r .used) (fresh 4 (bodyOf (given .t)))) _ _ _ (sym (c .before .before .before .before .before .before .before .makes-second .ensures) ∙ c .before .before .before .before .before .before .if1 .taken) (c .before .before .before .before .before .second-made .ensures) (c .before .before .put-slot .ensures)
 
 as-new-requires : tie.Need-as-new-requires
 as-new-requires c κs = search needs
@@ -38,10 +45,16 @@ same-length-2 : tie.Need-same-length-2
 same-length-2 c = search needs
 
 returns-2 : tie.Need-returns-2
-returns-2 c = takes-tuple (c .before .before .before .before .before .before .before .before .before .before .before .args .a) (c .before .before .before .before .before .before .before .before .before .before .before .args .x) (c .before .before .before .before .before .before .before .before .before .before .before .args .t) (c .before .before .before .before .before .before .before .before .before .before .before .args .r) _ _ _ (sym (c .before .before .before .before .before .before .before .before .before .makes-second .ensures) ∙ c .before .before .before .before .before .before .before .before .if1 .left) (eq-eqb _ _ (c .before .before .before .before .before .before .if2 .taken)) (c .before .before .before .before .before .as-new .ensures) (c .before .before .put-slot2 .ensures)
+unfolding forwardOther
+returns-2 c =
+    let given = c .before .before .before .before .before .before .before .before .before .before .before .args in
+    puts-two (makesSecond (given .a .kind)) (isIn (given .a .kind)) (put (given .r .second) (secondSlot (given .a) (bodyOf (given .x)))) (put (given .r .used) (fresh 4 (bodyOf (given .t)))) _ _ _ (sym (c .before .before .before .before .before .before .before .before .before .makes-second .ensures) ∙ c .before .before .before .before .before .before .before .before .if1 .left) (eq-eqb _ _ (c .before .before .before .before .before .before .if2 .taken)) (c .before .before .before .before .before .as-new .ensures) (c .before .before .put-slot2 .ensures)
 
 returns-3 : tie.Need-returns-3
-returns-3 c = makes-no-other (c .before .before .before .before .before .args .a) (c .before .before .before .before .before .args .x) (c .before .before .before .before .before .args .t) (c .before .before .before .before .before .args .r) (now (c .before .before .before .before .before .args .net)) (sym (c .before .before .before .makes-second .ensures) ∙ c .before .before .if1 .left) (ne-eqb _ _ (c .if2 .left))
+unfolding forwardOther
+returns-3 c =
+    let given = c .before .before .before .before .before .args in
+    puts-none (makesSecond (given .a .kind)) (isIn (given .a .kind)) (put (given .r .second) (secondSlot (given .a) (bodyOf (given .x)))) (put (given .r .used) (fresh 4 (bodyOf (given .t)))) (now (given .net)) (sym (c .before .before .before .makes-second .ensures) ∙ c .before .before .if1 .left) (ne-eqb _ _ (c .if2 .left))
 
 pub write-forward-other-spec : {M : Type 1} → statement M
 write-forward-other-spec =
