@@ -8,8 +8,9 @@ ghost use Rattle.laws.specs.Choice.{pick};
 ghost use Rattle.laws.specs.Lists.{tab};
 ghost use Rattle.laws.specs.Parts.{flat};
 ghost use Rattle.laws.specs.Words.{word};
-ghost use Rattle.names.specs.Names.{key, node};
+ghost use Rattle.names.specs.Names.{keyCount, key, node};
 ghost use Rattle.images.specs.Head.{byte, restZero};
+ghost use Rattle.images.specs.Sizes.{slotSize, SlotSized, Sized};
 ghost use Rattle.images.specs.Net.{datum0, isTuple, nodeOrCount, firstBytes, slotBytes, netBytes, netWritten, writtenInto, isUnset, isSet, isDatum, variablesInRange, fieldOrBlank, dataFill, madeAre, refsAre, madeInRange, refsInRange, freeInRange, processInRange, tupleInRange, slotInRange, freeSlot, indexOf, slotWith, slotAt, isFree};
 ghost use Rattle.images.specs.InPlace.{slotPut, presentPut};
 ghost use Rattle.images.specs.Read.{datumOf, slotOf, slotFormed, slotsFormed, netOf, netFormed, badNet, readNet};
@@ -37,7 +38,7 @@ const SLOT_SIZE: usize = 56;
 // ---- a slot taken apart
 
 fn datum_of(p: &[u8], j: usize) -> Datum
-    requires { ⌜ (length (now p) ≡ 56) × (j < 8) ⌝ }
+    requires { ⌜ SlotSized (now p) × (j < 8) ⌝ }
     ensures { λ r. ⌜ r ≡ datumOf (now (p .entry)) j ⌝ }
 {
     let number = laws::word_at(p, 16 + 4 * j);
@@ -48,7 +49,7 @@ fn datum_of(p: &[u8], j: usize) -> Datum
 }
 
 fn contents_of(p: &[u8]) -> [Datum; Variable::COUNT]
-    requires { ⌜ length (now p) ≡ 56 ⌝ }
+    requires { ⌜ SlotSized (now p) ⌝ }
     ensures { λ r. ⌜ r ≡ tab 8 (datumOf (now (p .entry))) ⌝ }
 {
     let d0 = datum_of(p, 0);
@@ -63,7 +64,7 @@ fn contents_of(p: &[u8]) -> [Datum; Variable::COUNT]
 }
 
 fn refs_of(p: &[u8]) -> [Key; Reference::COUNT]
-    requires { ⌜ length (now p) ≡ 56 ⌝ }
+    requires { ⌜ SlotSized (now p) ⌝ }
     ensures { λ r. ⌜ r ≡ tab 4 (λ j. key (byte (now (p .entry)) (48 + j))) ⌝ }
 {
     [Key(p[48]), Key(p[49]), Key(p[50]), Key(p[51])]
@@ -89,7 +90,7 @@ fn count_of(kind: u8, b: u8) -> u8
 }
 
 fn slot_of(p: &[u8]) -> Slot
-    requires { ⌜ length (now p) ≡ 56 ⌝ }
+    requires { ⌜ SlotSized (now p) ⌝ }
     ensures { λ r. ⌜ r ≡ slotOf (now (p .entry)) ⌝ }
 {
     let contents = contents_of(p);
@@ -176,7 +177,7 @@ pub fn refs_are(b: u8, refs: [Key; Reference::COUNT]) -> bool
 // ---- the form of a slot, looked at where it stands: p is its 56 bytes
 
 fn variables_in_range(p: &[u8]) -> bool
-    requires { ⌜ length (now p) ≡ 56 ⌝ }
+    requires { ⌜ SlotSized (now p) ⌝ }
     ensures { λ r. ⌜ r ≡ variablesInRange (slotOf (now (p .entry)) .contents) ⌝ }
 {
     let mut j: usize = 0;
@@ -192,7 +193,7 @@ fn variables_in_range(p: &[u8]) -> bool
 
 // The first so many are set, and the others blank.
 fn data_fill(count: u8, p: &[u8]) -> bool
-    requires { ⌜ length (now p) ≡ 56 ⌝ }
+    requires { ⌜ SlotSized (now p) ⌝ }
     ensures { λ r. ⌜ r ≡ dataFill count (slotOf (now (p .entry)) .contents) ⌝ }
 {
     let mut j: u8 = 0;
@@ -208,7 +209,7 @@ fn data_fill(count: u8, p: &[u8]) -> bool
 
 // What the slot made and used is this byte four times.
 fn makes_only(b: u8, p: &[u8]) -> bool
-    requires { ⌜ length (now p) ≡ 56 ⌝ }
+    requires { ⌜ SlotSized (now p) ⌝ }
     ensures { λ r. ⌜ r ≡ madeAre b (slotOf (now (p .entry))) ⌝ }
 {
     if p[3] != b {
@@ -225,7 +226,7 @@ fn makes_only(b: u8, p: &[u8]) -> bool
 
 // Every reference of the slot is this byte.
 fn refers_only(b: u8, p: &[u8]) -> bool
-    requires { ⌜ length (now p) ≡ 56 ⌝ }
+    requires { ⌜ SlotSized (now p) ⌝ }
     ensures { λ r. ⌜ r ≡ refsAre b (slotOf (now (p .entry)) .refs) ⌝ }
 {
     if p[48] != b {
@@ -241,7 +242,7 @@ fn refers_only(b: u8, p: &[u8]) -> bool
 }
 
 fn made_in_range(p: &[u8]) -> bool
-    requires { ⌜ length (now p) ≡ 56 ⌝ }
+    requires { ⌜ SlotSized (now p) ⌝ }
     ensures { λ r. ⌜ r ≡ madeInRange (slotOf (now (p .entry))) ⌝ }
 {
     let first = Key(p[3]);
@@ -261,7 +262,7 @@ fn made_in_range(p: &[u8]) -> bool
 }
 
 fn refs_in_range(p: &[u8]) -> bool
-    requires { ⌜ length (now p) ≡ 56 ⌝ }
+    requires { ⌜ SlotSized (now p) ⌝ }
     ensures { λ r. ⌜ r ≡ refsInRange (slotOf (now (p .entry)) .refs) ⌝ }
 {
     let one = Key(p[48]);
@@ -282,7 +283,7 @@ fn refs_in_range(p: &[u8]) -> bool
 
 // A free slot is 0 throughout; of its fourteen words the last is among the bytes that no slot uses.
 fn free_in_range(p: &[u8]) -> bool
-    requires { ⌜ (length (now p) ≡ 56) × (byte (now p) 0 ≡ 0) × (restZero 56 (now p) ≡ true) ⌝ }
+    requires { ⌜ SlotSized (now p) × (byte (now p) 0 ≡ 0) × (restZero slotSize (now p) ≡ true) ⌝ }
     ensures { λ r. ⌜ r ≡ freeInRange (slotOf (now (p .entry))) ⌝ }
 {
     let mut j: usize = 0;
@@ -296,7 +297,7 @@ fn free_in_range(p: &[u8]) -> bool
 }
 
 fn process_in_range(p: &[u8]) -> bool
-    requires { ⌜ (length (now p) ≡ 56) × (byte (now p) 0 < 3) ⌝ }
+    requires { ⌜ SlotSized (now p) × (byte (now p) 0 < 3) ⌝ }
     ensures { λ r. ⌜ r ≡ processInRange (slotOf (now (p .entry))) ⌝ }
 {
     let locality = Locality(p[1]);
@@ -314,7 +315,7 @@ fn process_in_range(p: &[u8]) -> bool
 }
 
 fn tuple_in_range(p: &[u8]) -> bool
-    requires { ⌜ (length (now p) ≡ 56) × (3 ≤ byte (now p) 0) ⌝ }
+    requires { ⌜ SlotSized (now p) × (3 ≤ byte (now p) 0) ⌝ }
     ensures { λ r. ⌜ r ≡ tupleInRange (slotOf (now (p .entry))) ⌝ }
 {
     let locality = Locality(p[1]);
@@ -339,7 +340,7 @@ fn tuple_in_range(p: &[u8]) -> bool
 
 // Of bytes whose unused ones are 0.
 fn slot_in_range(p: &[u8]) -> bool
-    requires { ⌜ (length (now p) ≡ 56) × (restZero 56 (now p) ≡ true) ⌝ }
+    requires { ⌜ SlotSized (now p) × (restZero slotSize (now p) ≡ true) ⌝ }
     ensures { λ r. ⌜ r ≡ slotInRange (slotOf (now (p .entry))) ⌝ }
 {
     let kind = p[0];
@@ -366,7 +367,7 @@ fn slot_in_range(p: &[u8]) -> bool
 
 // The bytes that no slot uses, and the range.
 fn slot_formed(p: &[u8]) -> bool
-    requires { ⌜ length (now p) ≡ 56 ⌝ }
+    requires { ⌜ SlotSized (now p) ⌝ }
     ensures { λ r. ⌜ r ≡ slotFormed (now (p .entry)) ⌝ }
 {
     if !rest_is_zero(p, SLOT_SIZE) {
@@ -379,7 +380,7 @@ fn slot_formed(p: &[u8]) -> bool
 
 // Slot i of an image.
 pub fn slot_at(b: &[u8], i: usize) -> Slot
-    requires { ⌜ (length (now b) ≡ 3600) × (i < 64) ⌝ }
+    requires { ⌜ Sized (now b) × (i < keyCount) ⌝ }
     ensures { λ r. ⌜ r ≡ slotAt (netOf (now (b .entry))) i ⌝ }
 {
     let at = 16 + SLOT_SIZE * i;
@@ -430,7 +431,7 @@ pub fn is_free(s: Slot) -> bool
 
 // The slot with this key in an image; where there is no such key, nothing is held.
 pub fn slot_in(b: &[u8], k: Key) -> Slot
-    requires { ⌜ length (now b) ≡ 3600 ⌝ }
+    requires { ⌜ Sized (now b) ⌝ }
     ensures { λ r. ⌜ r ≡ slotWith (netOf (now (b .entry))) k ⌝ }
 {
     if k.is_key() {
@@ -441,7 +442,7 @@ pub fn slot_in(b: &[u8], k: Key) -> Slot
 
 // The localities that are present in an image.
 pub fn present_in(b: &[u8]) -> Localities
-    requires { ⌜ length (now b) ≡ 3600 ⌝ }
+    requires { ⌜ Sized (now b) ⌝ }
     ensures { λ r. ⌜ r ≡ netOf (now (b .entry)) .present ⌝ }
 {
     Localities(laws::word_at(b, 8))
@@ -449,7 +450,7 @@ pub fn present_in(b: &[u8]) -> Localities
 
 // The slot is written at its key; where there is no such key, nothing is.
 pub fn put_slot(k: Key, x: Slot, d: &mut [u8])
-    requires { ⌜ length (now d) ≡ 3600 ⌝ }
+    requires { ⌜ Sized (now d) ⌝ }
     ensures { λ _. ⌜ now (d .exit) ≡ slotPut k x (now (d .entry)) ⌝ }
 {
     if !k.is_key() {
@@ -461,7 +462,7 @@ pub fn put_slot(k: Key, x: Slot, d: &mut [u8])
 
 // The slot is written at its key, whose contents and references it keeps; where there is no such key, nothing is.
 pub fn put_keeping(k: Key, x: Slot, d: &mut [u8])
-    requires { ⌜ length (now d) ≡ 3600 ⌝ }
+    requires { ⌜ Sized (now d) ⌝ }
     requires { ⌜ (x .contents ≡ slotWith (netOf (now d)) k .contents) × (x .refs ≡ slotWith (netOf (now d)) k .refs) ⌝ }
     ensures { λ _. ⌜ now (d .exit) ≡ slotPut k x (now (d .entry)) ⌝ }
 {
@@ -473,7 +474,7 @@ pub fn put_keeping(k: Key, x: Slot, d: &mut [u8])
 }
 
 pub fn put_present(p: Localities, d: &mut [u8])
-    requires { ⌜ length (now d) ≡ 3600 ⌝ }
+    requires { ⌜ Sized (now d) ⌝ }
     ensures { λ _. ⌜ now (d .exit) ≡ presentPut p (now (d .entry)) ⌝ }
 {
     laws::write_word(p.0, &mut d[8..12]);
@@ -496,7 +497,7 @@ fn refused() -> NetRead
 }
 
 fn slots_formed(b: &[u8]) -> bool
-    requires { ⌜ length (now b) ≡ 3600 ⌝ }
+    requires { ⌜ Sized (now b) ⌝ }
     ensures { λ r. ⌜ r ≡ slotsFormed (now (b .entry)) ⌝ }
 {
     let mut i: usize = 0;
@@ -525,7 +526,7 @@ pub fn net_formed(b: &[u8]) -> bool
 
 // What an image holds.
 fn net_of(b: &[u8]) -> Net
-    requires { ⌜ length (now b) ≡ 3600 ⌝ }
+    requires { ⌜ Sized (now b) ⌝ }
     ensures { λ r. ⌜ r ≡ netOf (now (b .entry)) ⌝ }
 {
     let blank = free_slot();
@@ -615,7 +616,7 @@ fn write_refs(refs: [Key; Reference::COUNT], p: &mut [u8])
 }
 
 fn write_slot(s: Slot, p: &mut [u8])
-    requires { ⌜ length (now p) ≡ 56 ⌝ }
+    requires { ⌜ SlotSized (now p) ⌝ }
     ensures { λ _. ⌜ now (p .exit) ≡ slotBytes s ⌝ }
 {
     let contents = s.contents;
@@ -628,7 +629,7 @@ fn write_slot(s: Slot, p: &mut [u8])
 
 // A slot whose contents and references stand there already: only what is around them is written.
 fn write_around(s: Slot, p: &mut [u8])
-    requires { ⌜ length (now p) ≡ 56 ⌝ }
+    requires { ⌜ SlotSized (now p) ⌝ }
     requires { ⌜ (s .contents ≡ slotOf (now p) .contents) × (s .refs ≡ slotOf (now p) .refs) ⌝ }
     ensures { λ _. ⌜ now (p .exit) ≡ slotBytes s ⌝ }
 {
@@ -637,7 +638,7 @@ fn write_around(s: Slot, p: &mut [u8])
 }
 
 fn write_image(n: Net, d: &mut [u8])
-    requires { ⌜ length (now d) ≡ 3600 ⌝ }
+    requires { ⌜ Sized (now d) ⌝ }
     ensures { λ _. ⌜ now (d .exit) ≡ netBytes n ⌝ }
 {
     write_head(b'N', n.present.0, &mut d[0..16]);

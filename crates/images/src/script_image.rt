@@ -3,7 +3,9 @@ ghost use mathlib.Core.Path.{_≡_};
 ghost use Prim.Native.Nat.{_<_};
 ghost use lib.ListN.{length};
 ghost use mathlib.Core.Bool.{true, _&&_};
+ghost use Rattle.names.specs.Names.{nodeCount};
 ghost use Rattle.images.specs.Head.{partAt};
+ghost use Rattle.images.specs.Sizes.{nodeSize, NodeSized, Scripted};
 ghost use Rattle.images.specs.Script.{rowOf, nodeInPlace, targetInPlace, referenceInPlace, fieldInRange, isBlank, countInPlace, fieldInPlace, fieldsInPlace, sameFormal, freshFormal, formalsDistinct, placesInRow, fieldsInRow, actionInRange};
 ghost use Rattle.images.specs.Read.{fieldOf, actionOf, actionFormed, nodesFormed, scriptOf, scriptFormed, nilAction, nodeWith, badScript, readScript};
 use super::Action;
@@ -107,7 +109,7 @@ fn wide(b: u8) -> u32
 }
 
 fn field_of(p: &[u8], j: usize) -> Field
-    requires { ⌜ (length (now p) ≡ 32) × (j < 4) ⌝ }
+    requires { ⌜ NodeSized (now p) × (j < 4) ⌝ }
     ensures { λ r. ⌜ r ≡ fieldOf (now (p .entry)) j ⌝ }
 {
     let number = laws::word_at(p, 12 + 4 * j);
@@ -118,7 +120,7 @@ fn field_of(p: &[u8], j: usize) -> Field
 }
 
 fn action_of(p: &[u8]) -> Action
-    requires { ⌜ length (now p) ≡ 32 ⌝ }
+    requires { ⌜ NodeSized (now p) ⌝ }
     ensures { λ r. ⌜ r ≡ actionOf (now (p .entry)) ⌝ }
 {
     let f0 = field_of(p, 0);
@@ -315,7 +317,7 @@ fn action_in_range(a: Action) -> bool
 
 // Whether a node is nil, by its words: most nodes of a script are.
 fn is_nil(p: &[u8]) -> bool
-    requires { ⌜ length (now p) ≡ 32 ⌝ }
+    requires { ⌜ NodeSized (now p) ⌝ }
     ensures { λ r. ⌜ ((r ≡ true) → (actionFormed (now (p .entry)) ≡ true)) ⌝ }
 {
     if laws::word_at(p, 0) != 0 {
@@ -336,7 +338,7 @@ fn is_nil(p: &[u8]) -> bool
 
 // The bytes that no node uses, and the range.
 fn action_formed(p: &[u8]) -> bool
-    requires { ⌜ length (now p) ≡ 32 ⌝ }
+    requires { ⌜ NodeSized (now p) ⌝ }
     ensures { λ r. ⌜ r ≡ actionFormed (now (p .entry)) ⌝ }
 {
     if is_nil(p) {
@@ -353,8 +355,8 @@ fn action_formed(p: &[u8]) -> bool
 
 // Node i of an image.
 fn action_at(b: &[u8], i: usize) -> Action
-    requires { ⌜ (length (now b) ≡ 2064) × (i < 64) ⌝ }
-    ensures { λ r. ⌜ r ≡ actionOf (partAt 32 (now (b .entry)) i) ⌝ }
+    requires { ⌜ Scripted (now b) × (i < nodeCount) ⌝ }
+    ensures { λ r. ⌜ r ≡ actionOf (partAt nodeSize (now (b .entry)) i) ⌝ }
 {
     let at = 16 + NODE_SIZE * i;
     action_of(&b[at..at + NODE_SIZE])
@@ -376,7 +378,7 @@ fn nil() -> Action
 
 // The node of this number in an image; where there is no such node, nil.
 pub fn node_in(b: &[u8], k: Node) -> Action
-    requires { ⌜ length (now b) ≡ 2064 ⌝ }
+    requires { ⌜ Scripted (now b) ⌝ }
     ensures { λ r. ⌜ r ≡ nodeWith (scriptOf (now (b .entry))) k ⌝ }
 {
     if k.is_node() {
@@ -401,7 +403,7 @@ fn refused() -> ScriptRead
 }
 
 fn nodes_formed(b: &[u8]) -> bool
-    requires { ⌜ length (now b) ≡ 2064 ⌝ }
+    requires { ⌜ Scripted (now b) ⌝ }
     ensures { λ r. ⌜ r ≡ nodesFormed (now (b .entry)) ⌝ }
 {
     let mut i: usize = 0;
@@ -433,7 +435,7 @@ pub fn script_formed(b: &[u8]) -> bool
 
 // What an image holds.
 fn script_of(b: &[u8]) -> Script
-    requires { ⌜ length (now b) ≡ 2064 ⌝ }
+    requires { ⌜ Scripted (now b) ⌝ }
     ensures { λ r. ⌜ r ≡ scriptOf (now (b .entry)) ⌝ }
 {
     let blank = nil();

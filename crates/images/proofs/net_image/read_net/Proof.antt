@@ -1,8 +1,8 @@
 -- `read_net` meets its contract. Assumes nothing.
 use mathlib.Core.Path.{_∙_, sym}
-use borrow.Author.Tests.{eqb-true, not-true, not-false}
-use Rattle.laws.specs.Choice.{and-left}
-use Rattle.images.specs.Read.{netFormed, readNet}
+use borrow.Author.Tests.{not-true, not-false}
+use Rattle.images.specs.Read.{readNet}
+use Rattle.images.specs.Sizes.{net-sized}
 use borrow.Author.Needs.{needs}
 use Rattle.images.proofs.net_image.read_net.Statement.{statement}
 use Rattle.images.proofs.net_image.read_net.Tie as tie
@@ -23,8 +23,7 @@ unfolding readNet
 returns c = rw (sym (c .before .before .net-formed .ensures) ∙ not-true _ (c .before .if1 .taken), c .refused .ensures)
 
 net-of-requires : tie.Need-net-of-requires
-unfolding netFormed
-net-of-requires c κs = eqb-true _ 3600 (and-left _ _ (sym (c .before .net-formed .ensures) ∙ not-false _ (c .if1 .left)))
+net-of-requires c κs = net-sized _ (sym (c .before .net-formed .ensures) ∙ not-false _ (c .if1 .left))
 
 returns-2 : tie.Need-returns-2
 unfolding readNet

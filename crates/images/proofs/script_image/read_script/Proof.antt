@@ -1,8 +1,8 @@
 -- `read_script` meets its contract. Assumes nothing.
 use mathlib.Core.Path.{_∙_, sym}
-use borrow.Author.Tests.{eqb-true, not-true, not-false}
-use Rattle.laws.specs.Choice.{and-left}
-use Rattle.images.specs.Read.{scriptFormed, readScript}
+use borrow.Author.Tests.{not-true, not-false}
+use Rattle.images.specs.Read.{readScript}
+use Rattle.images.specs.Sizes.{script-sized}
 use borrow.Author.Needs.{needs}
 use Rattle.images.proofs.script_image.read_script.Statement.{statement}
 use Rattle.images.proofs.script_image.read_script.Tie as tie
@@ -23,8 +23,7 @@ unfolding readScript
 returns c = rw (sym (c .before .before .script-formed .ensures) ∙ not-true _ (c .before .if1 .taken), c .refused .ensures)
 
 script-of-requires : tie.Need-script-of-requires
-unfolding scriptFormed
-script-of-requires c κs = eqb-true _ 2064 (and-left _ _ (sym (c .before .script-formed .ensures) ∙ not-false _ (c .if1 .left)))
+script-of-requires c κs = script-sized _ (sym (c .before .script-formed .ensures) ∙ not-false _ (c .if1 .left))
 
 returns-2 : tie.Need-returns-2
 unfolding readScript
