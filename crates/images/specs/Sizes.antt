@@ -1,8 +1,7 @@
 -- How many bytes an image has, and a part of one. Document 01: "then 64 nodes of 32 bytes from 16", "then 64 slots of 56 bytes from 16".
 -- Contracts say these names and no number: an image with other parts changes them here.
 -- Assumes nothing.
-use Prim.Native.Nat.{ℕ, _+_, _*_, _≤_}
-use native.Mathlib.Omega.{arith}
+use Prim.Native.Nat.{ℕ, _+_, _*_}
 use mathlib.Core.Path.{_≡_}
 use mathlib.Core.Bool.{true}
 use mathlib.Core.List.{List}
@@ -32,7 +31,7 @@ SlotSized p = length p ≡ slotSize
 
 -- as many bytes as a look-up of a node needs: the head, and 32 for each node
 abbrev pub Scripted : List ℕ → Type 0
-Scripted b = headSize + nodeSize * nodeCount ≤ length b
+Scripted b = length b ≡ headSize + nodeSize * nodeCount
 
 -- the head, and 56 bytes for each key that the net has
 abbrev pub Sized : List ℕ → Type 0
@@ -41,7 +40,7 @@ Sized b = length b ≡ headSize + slotSize * keyCount
 -- ---- an image has them
 pub script-sized : (b : List ℕ) → scriptFormed b ≡ true → Scripted b
 unfolding scriptFormed
-script-sized b f = omega (arith, eqb-true (length b) 2064 (and-left (eqb (length b) 2064) _ f))
+script-sized b f = eqb-true (length b) 2064 (and-left (eqb (length b) 2064) _ f)
 
 pub net-sized : (b : List ℕ) → netFormed b ≡ true → Sized b
 unfolding netFormed

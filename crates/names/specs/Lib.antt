@@ -1,3 +1,4 @@
 pub mod Names
 pub mod Localities
 pub mod KeySets
+pub mod Reads

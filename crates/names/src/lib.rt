@@ -3,7 +3,7 @@
 ghost use mathlib.Core.Path.{_≡_};
 ghost use Prim.Native.Nat.{_<_};
 ghost use lib.Dec.{ltb};
-ghost use Rattle.names.specs.Names.{localityCount, belowOrNone, isKey, isKeyOrNone, isLocality, isLocalityOrNone, isNode, isReferenceOrNone, keyOf, keyOrNone, localityOf, localityOrNone, variableOf, nodeOf};
+ghost use Rattle.names.specs.Names.{keyCount, localityCount, belowOrNone, isKey, isKeyOrNone, isLocality, isLocalityOrNone, isNode, isReferenceOrNone, keyOf, keyOrNone, localityOf, localityOrNone, variableOf, nodeOf};
 ghost use Rattle.names.specs.Localities.{localities, holds, joined, parted};
 ghost use Rattle.names.specs.KeySets.{isIn, including, excluding, either, both, isEmpty};
 
@@ -66,8 +66,8 @@ impl Key {
     pub const NONE: Key = Key(NONE);
 
     pub const COUNT: usize = 64;
-
-    const LIMIT: u8 = 64;
+    // The count as a byte: keys are below it.
+    pub const LIMIT: u8 = 64;
 
     pub fn of_byte(b: u8) -> KeyRead
         ensures { λ r. ⌜ r ≡ keyOf b ⌝ }
@@ -121,6 +121,17 @@ impl Locality {
         }
     }
 
+    // A field's number as the locality that it names.
+    pub fn of_number(x: u32) -> LocalityRead
+        ensures { λ r. ⌜ r ≡ localityOf x ⌝ }
+    {
+        if x < Locality::LIMIT as u32 {
+            LocalityRead::Locality(Locality(x as u8))
+        } else {
+            LocalityRead::Bad
+        }
+    }
+
     pub fn or_none(b: u8) -> LocalityRead
         ensures { λ r. ⌜ r ≡ localityOrNone b ⌝ }
     {
@@ -154,13 +165,14 @@ impl Locality {
 impl Variable {
     pub const COUNT: usize = 8;
 
-    const LIMIT: u8 = 8;
+    pub const LIMIT: u8 = 8;
 
-    pub fn of_byte(b: u8) -> VariableRead
-        ensures { λ r. ⌜ r ≡ variableOf b ⌝ }
+    // A field's number as the variable that it names.
+    pub fn of_number(x: u32) -> VariableRead
+        ensures { λ r. ⌜ r ≡ variableOf x ⌝ }
     {
-        if b < Variable::LIMIT {
-            VariableRead::Variable(Variable(b))
+        if x < Variable::LIMIT as u32 {
+            VariableRead::Variable(Variable(x as u8))
         } else {
             VariableRead::Bad
         }
@@ -194,7 +206,7 @@ impl Reference {
 
     pub const COUNT: usize = 4;
 
-    const LIMIT: u8 = 4;
+    pub const LIMIT: u8 = 4;
 
     pub fn is_reference_or_none(self) -> bool
         ensures { λ r. ⌜ r ≡ isReferenceOrNone self ⌝ }
@@ -207,21 +219,21 @@ impl Localities {
     pub const EMPTY: Localities = Localities(0);
 
     pub fn has(self, l: Locality) -> bool
-        requires { ⌜ l .0 < 32 ⌝ }
+        requires { ⌜ l .0 < localityCount ⌝ }
         ensures { λ r. ⌜ r ≡ holds self l ⌝ }
     {
         (self.0 >> l.0) & 1 == 1
     }
 
     pub fn with(self, l: Locality) -> Localities
-        requires { ⌜ l .0 < 32 ⌝ }
+        requires { ⌜ l .0 < localityCount ⌝ }
         ensures { λ r. ⌜ r ≡ joined self l ⌝ }
     {
         Localities(self.0 | (1 << l.0))
     }
 
     pub fn without(self, l: Locality) -> Localities
-        requires { ⌜ l .0 < 32 ⌝ }
+        requires { ⌜ l .0 < localityCount ⌝ }
         ensures { λ r. ⌜ r ≡ parted self l ⌝ }
     {
         Localities(self.0 & !(1 << l.0))
@@ -232,21 +244,21 @@ impl Keys {
     pub const EMPTY: Keys = Keys(0);
 
     pub fn has(self, k: Key) -> bool
-        requires { ⌜ k .0 < 64 ⌝ }
+        requires { ⌜ k .0 < keyCount ⌝ }
         ensures { λ r. ⌜ r ≡ isIn self k ⌝ }
     {
         (self.0 >> k.0) & 1 == 1
     }
 
     pub fn with(self, k: Key) -> Keys
-        requires { ⌜ k .0 < 64 ⌝ }
+        requires { ⌜ k .0 < keyCount ⌝ }
         ensures { λ r. ⌜ r ≡ including self k ⌝ }
     {
         Keys(self.0 | (1 << k.0))
     }
 
     pub fn without(self, k: Key) -> Keys
-        requires { ⌜ k .0 < 64 ⌝ }
+        requires { ⌜ k .0 < keyCount ⌝ }
         ensures { λ r. ⌜ r ≡ excluding self k ⌝ }
     {
         Keys(self.0 & !(1 << k.0))
