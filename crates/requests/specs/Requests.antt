@@ -2,15 +2,20 @@
 -- In order: `number`, and the answer of a number (`answerOf`), which are each other's inverse (`number-of`, `answer-number`); what a call tells that is
 -- refused (`refusal`); a request as the definitions take it (`asked`); `readRequest`.
 -- Assumes nothing.
-use Prim.Native.Nat.{ℕ, zero, suc, _<_}
+use Prim.Native.Nat.{ℕ, zero, suc, _≤_}
 use mathlib.Core.Path.{_≡_, refl}
 use mathlib.Core.List.{List}
 use mathlib.Core.Bool.{Bool}
-use native.Mathlib.Omega.{arith}
 use lib.Dec.{eqb}
 use lib.ListN.{length, getD}
 use Rattle.laws.specs.Choice.{pick}
-use Rattle.names.specs.Names.{key, locality}
+use borrow.Author.Tests.{eq-eqb, le-leb}
+use Rattle.names.specs.Names.{key, locality, keyOf, keyOrNone, localityOrNone}
+use Rattle.names.specs.Reads.{key-read, key-or-none-read, locality-or-none-read}
+use Rattle.names.specs.declared.Key.{Key}
+use Rattle.names.specs.declared.Locality.{Locality}
+use Rattle.names.specs.declared.KeyRead.the-variants as KeyRead
+use Rattle.names.specs.declared.LocalityRead.the-variants as LocalityRead
 use Rattle.names.specs.Localities.{localities}
 use Rattle.requests.specs.Answers as A
 use Rattle.requests.specs.declared.Request.{Request}
@@ -98,3 +103,26 @@ requestOf b =
 unfoldable pub readRequest : List ℕ → RequestRead
 readRequest b =
     pick (eqb (length b) 6) (pick (A.inRange (asked (requestOf b))) (RequestRead.Request (requestOf b)) RequestRead.Bad) RequestRead.Bad
+
+-- the names that were read are the request's
+pub request-read : (b : List ℕ) (k u f s : Key) (p : Locality) → length b ≡ 6 → getD b 0 0 ≤ 3 → KeyRead.Key k ≡ keyOf (getD b 1 0)
+    → KeyRead.Key u ≡ keyOrNone (getD b 2 0) → KeyRead.Key f ≡ keyOrNone (getD b 3 0) → KeyRead.Key s ≡ keyOrNone (getD b 4 0)
+    → LocalityRead.Locality p ≡ localityOrNone (getD b 5 0)
+    → RequestRead.Request (record { code = getD b 0 0; key = k; used = u; first = f; second = s; place = p }) ≡ readRequest b
+unfolding readRequest A.inRange
+request-read b k u f s p six code is-k is-u is-f is-s is-p =
+    let key-there = key-read (getD b 1 0) k is-k in
+    let used-there = key-or-none-read (getD b 2 0) u is-u in
+    let first-there = key-or-none-read (getD b 3 0) f is-f in
+    let second-there = key-or-none-read (getD b 4 0) s is-s in
+    let place-there = locality-or-none-read (getD b 5 0) p is-p in
+    rw (eq-eqb (length b) 6 six, le-leb (getD b 0 0) 3 code, key-there .1, used-there .1, first-there .1, second-there .1, place-there .1)
+    (λ i.
+    RequestRead.Request (record {
+      code = getD b 0 0;
+      key = key-there .0 i;
+      used = used-there .0 i;
+      first = first-there .0 i;
+      second = second-there .0 i;
+      place = place-there .0 i;
+    }))

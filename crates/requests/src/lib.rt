@@ -1,10 +1,11 @@
 // A request, as its six bytes say, and what a call tells: the answers that it may give, and the numbers beside them.
 ghost use mathlib.Core.Path.{_≡_};
-ghost use Rattle.requests.specs.Answers.{inRange};
-ghost use Rattle.requests.specs.Requests.{asked, number, refusal, readRequest};
+ghost use Rattle.requests.specs.Requests.{number, refusal, readRequest};
 use names::Key;
+use names::KeyRead;
 use names::Localities;
 use names::Locality;
+use names::LocalityRead;
 
 // What a call is asked: codes 0 forward, 1 backward, 2 rollback, 3 roll. A place that the code has no need for is none.
 pub struct Request {
@@ -102,32 +103,6 @@ pub fn refused(answer: Answer) -> Told
     }
 }
 
-fn in_range(r: Request) -> bool
-    ensures { λ o. ⌜ o ≡ inRange (asked r) ⌝ }
-{
-    if Request::ROLL < r.code {
-        return false;
-    }
-    let key = r.key;
-    if !key.is_key() {
-        return false;
-    }
-    let used = r.used;
-    if !used.is_key_or_none() {
-        return false;
-    }
-    let first = r.first;
-    if !first.is_key_or_none() {
-        return false;
-    }
-    let second = r.second;
-    if !second.is_key_or_none() {
-        return false;
-    }
-    let place = r.place;
-    place.is_locality_or_none()
-}
-
 // Any byte string: the request that it is, or a refusal.
 pub fn read_request(b: &[u8]) -> RequestRead
     ensures { λ r. ⌜ r ≡ readRequest (now (b .entry)) ⌝ }
@@ -135,16 +110,30 @@ pub fn read_request(b: &[u8]) -> RequestRead
     if b.len() != Request::SIZE {
         return RequestRead::Bad;
     }
-    let r = Request {
-        code: b[0],
-        key: Key(b[1]),
-        used: Key(b[2]),
-        first: Key(b[3]),
-        second: Key(b[4]),
-        place: Locality(b[5]),
-    };
-    if !in_range(r) {
+    if Request::ROLL < b[0] {
         return RequestRead::Bad;
     }
-    RequestRead::Request(r)
+    let KeyRead::Key(key) = Key::of_byte(b[1]) else {
+        return RequestRead::Bad;
+    };
+    let KeyRead::Key(used) = Key::or_none(b[2]) else {
+        return RequestRead::Bad;
+    };
+    let KeyRead::Key(first) = Key::or_none(b[3]) else {
+        return RequestRead::Bad;
+    };
+    let KeyRead::Key(second) = Key::or_none(b[4]) else {
+        return RequestRead::Bad;
+    };
+    let LocalityRead::Locality(place) = Locality::or_none(b[5]) else {
+        return RequestRead::Bad;
+    };
+    RequestRead::Request(Request {
+        code: b[0],
+        key,
+        used,
+        first,
+        second,
+        place,
+    })
 }
