@@ -10,6 +10,7 @@ pub mod Layout
 pub mod Shape
 pub mod Round
 pub mod InPlace
+pub mod Changed
 pub mod Formed
 pub mod Reading
 pub mod Examples

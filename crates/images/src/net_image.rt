@@ -8,10 +8,11 @@ ghost use Rattle.laws.specs.Choice.{pick};
 ghost use Rattle.laws.specs.Lists.{tab};
 ghost use Rattle.laws.specs.Parts.{flat};
 ghost use Rattle.laws.specs.Words.{word};
-ghost use Rattle.names.specs.Names.{keyCount, key, node};
+ghost use Rattle.names.specs.Names.{referenceCount, variableCount, keyCount, key, node};
 ghost use Rattle.images.specs.Head.{byte, restZero};
 ghost use Rattle.images.specs.Sizes.{slotSize, SlotSized, Sized};
 ghost use Rattle.images.specs.Net.{datum0, isTuple, nodeOrCount, firstBytes, slotBytes, netBytes, netWritten, writtenInto, isUnset, isSet, isDatum, variablesInRange, fieldOrBlank, dataFill, madeAre, refsAre, madeInRange, refsInRange, freeInRange, processInRange, tupleInRange, slotInRange, freeSlot, indexOf, slotWith, slotAt, isFree};
+ghost use Rattle.images.specs.Changed.{variableSet, variablePut, referenceSet, referencePut};
 ghost use Rattle.images.specs.InPlace.{slotPut, presentPut};
 ghost use Rattle.images.specs.Read.{datumOf, slotOf, slotFormed, slotsFormed, netOf, netFormed, badNet, readNet};
 use super::Datum;
@@ -33,7 +34,7 @@ use names::Variable;
 
 pub const SIZE: usize = 3600;
 
-const SLOT_SIZE: usize = 56;
+pub const SLOT_SIZE: usize = 56;
 
 // ---- a slot taken apart
 
@@ -89,7 +90,7 @@ fn count_of(kind: u8, b: u8) -> u8
     0
 }
 
-fn slot_of(p: &[u8]) -> Slot
+pub fn slot_of(p: &[u8]) -> Slot
     requires { ⌜ SlotSized (now p) ⌝ }
     ensures { λ r. ⌜ r ≡ slotOf (now (p .entry)) ⌝ }
 {
@@ -471,6 +472,49 @@ pub fn put_keeping(k: Key, x: Slot, d: &mut [u8])
     }
     let at = 16 + SLOT_SIZE * k.0 as usize;
     write_around(x, &mut d[at..at + SLOT_SIZE]);
+}
+
+// ---- a record changed where it lies
+
+fn set_variable(v: Variable, d: Datum, p: &mut [u8])
+    requires { ⌜ SlotSized (now p) × (v .0 < variableCount) ⌝ }
+    ensures { λ _. ⌜ now (p .exit) ≡ variableSet (v .0) d (now (p .entry)) ⌝ }
+{
+    let i = v.0 as usize;
+    p[8 + i] = d.tag;
+    let at = 16 + 4 * i;
+    laws::write_word(d.number, &mut p[at..at + 4]);
+}
+
+// A variable of the process with this key is set; where there is no such key, nothing is.
+pub fn put_variable(k: Key, v: Variable, d: Datum, b: &mut [u8])
+    requires { ⌜ Sized (now b) × (v .0 < variableCount) ⌝ }
+    ensures { λ _. ⌜ now (b .exit) ≡ variablePut k v d (now (b .entry)) ⌝ }
+{
+    if !k.is_key() {
+        return;
+    }
+    let at = 16 + SLOT_SIZE * k.0 as usize;
+    set_variable(v, d, &mut b[at..at + SLOT_SIZE]);
+}
+
+fn set_reference(i: Reference, e: Key, p: &mut [u8])
+    requires { ⌜ SlotSized (now p) × (i .0 < referenceCount) ⌝ }
+    ensures { λ _. ⌜ now (p .exit) ≡ referenceSet (i .0) e (now (p .entry)) ⌝ }
+{
+    p[48 + i.0 as usize] = e.0;
+}
+
+// A reference of the process with this key takes another key; where there is no such process, none does.
+pub fn put_reference(k: Key, i: Reference, e: Key, b: &mut [u8])
+    requires { ⌜ Sized (now b) × (i .0 < referenceCount) ⌝ }
+    ensures { λ _. ⌜ now (b .exit) ≡ referencePut k i e (now (b .entry)) ⌝ }
+{
+    if !k.is_key() {
+        return;
+    }
+    let at = 16 + SLOT_SIZE * k.0 as usize;
+    set_reference(i, e, &mut b[at..at + SLOT_SIZE]);
 }
 
 pub fn put_present(p: Localities, d: &mut [u8])

@@ -22,7 +22,7 @@ use names::Reference;
 
 pub const SIZE: usize = 2064;
 
-const NODE_SIZE: usize = 32;
+pub const NODE_SIZE: usize = 32;
 
 // Document 01's table: which places each kind uses.
 const ROWS: [Row; 8] = [
@@ -119,7 +119,7 @@ fn field_of(p: &[u8], j: usize) -> Field
     }
 }
 
-fn action_of(p: &[u8]) -> Action
+pub fn action_of(p: &[u8]) -> Action
     requires { ⌜ NodeSized (now p) ⌝ }
     ensures { λ r. ⌜ r ≡ actionOf (now (p .entry)) ⌝ }
 {
