@@ -3,10 +3,11 @@
 -- Assumes nothing.
 use Prim.Native.Nat.{ℕ}
 use mathlib.Core.List.{List}
-use mathlib.Core.Bool.{Bool, true, _&&_, _||_, not}
+use mathlib.Core.Path.{_≡_, ap, sym}
+use mathlib.Core.Bool.{Bool, true, false, _&&_, _||_, not, true≢false}
 use lib.Dec.{eqb, ltb, leb}
 use lib.ListN.{getD}
-use Rattle.laws.specs.Choice.{pick}
+use Rattle.laws.specs.Choice.{pick, cases}
 use Rattle.laws.specs.Checks.{all}
 use Rattle.names.specs.Names.{variableCount, localityCount, locality}
 use Rattle.images.specs.Script.{field0, fieldAt}
@@ -36,6 +37,22 @@ actual vars f = pick (isVariable f) (variableOf vars (f .number)) (record { tag 
 
 unfoldable pub evaluated : List Datum → Field → Evaluated
 evaluated vars f = pick (eqb (actual vars f .tag) 0) Evaluated.Unset (Evaluated.Set (actual vars f))
+
+-- what the answer says
+abbrev isThere : Evaluated → Bool
+isThere (Evaluated.Set d) = true
+isThere Evaluated.Unset = false
+
+pub set-there : (vars : List Datum) (f : Field) (d : Datum) → Evaluated.Set d ≡ evaluated vars f → eqb (actual vars f .tag) 0 ≡ false
+unfolding evaluated
+set-there vars f d e =
+    cases (eqb (actual vars f .tag) 0) (λ t. let b : Evaluated.Set d ≡ Evaluated.Unset = rw t at e in absurd (true≢false (ap isThere b))) (λ t. t)
+
+pub set-not : (vars : List Datum) (f : Field) → Evaluated.Unset ≡ evaluated vars f → eqb (actual vars f .tag) 0 ≡ true
+unfolding evaluated
+set-not vars f e =
+    cases (eqb (actual vars f .tag) 0) (λ t. t)
+    (λ t. let b : Evaluated.Unset ≡ Evaluated.Set (actual vars f) = rw t at e in absurd (true≢false (sym (ap isThere b))))
 
 -- "target or actual variable unset, target no locality" (check 7): a target is evaluated as a field is
 abbrev pub placeOf : Datum → Target

@@ -20,7 +20,7 @@ use Rattle.images.specs.declared.Datum.{Datum}
 use Rattle.matching.specs.Evaluate.{actual, isFormal}
 use Rattle.matching.specs.declared.Match.{Match}
 use Rattle.matching.specs.declared.Match.the-variants as Match
-use Rattle.matching.specs.declared.Matching.{Matching}
+use Rattle.images.specs.declared.Slot.{Slot}
 
 -- one field of a template against one of a tuple
 unfoldable pub fieldMeets : List Datum → Field → Datum → Bool
@@ -46,6 +46,12 @@ bindOne vars f d = pick (isFormal f) (withVariable vars (f .number) d) vars
 abbrev pub binds : Field → Bool
 binds f = isFormal f && ltb (f .number) variableCount
 
+pub no-formal : (f : Field) → isFormal f ≡ false → binds f ≡ false
+no-formal f h = rw h
+
+pub no-variable : (f : Field) → ltb (f .number) variableCount ≡ false → binds f ≡ false
+no-variable f h = cases (isFormal f) (λ t. rw (t, h)) (λ t. rw t)
+
 -- the first k fields bound
 unfoldable pub bindUpTo : ℕ → List Datum → Action → List Datum → List Datum
 bindUpTo zero vars a fields = vars
@@ -69,11 +75,17 @@ module _ (vars : List Datum) (a : Action) (fields : List Datum) (k : ℕ) (now :
       let v : ltb (fieldAt a k .number) variableCount ≡ true = and-right (isFormal (fieldAt a k)) _ h in
       rw (add-one k, f, v) (ap (λ (l : List Datum). set l (fieldAt a k .number) (getD fields k datum0)) is)
 
--- the answer, and the process's variables: as bound where it matches, else as they were
-unfoldable pub matchOf : List Datum → Action → ℕ → List Datum → Matching
-matchOf vars a count fields =
-    pick (meets vars a count fields) (record { answer = Match.Matches; contents = bound vars a fields })
-    (record { answer = Match.Differs; contents = vars })
+-- the template of a node against a tuple, as an answer
+unfoldable pub matchOf : List Datum → Action → Slot → Match
+matchOf vars a t = pick (meets vars a (t .count) (t .contents)) Match.Matches Match.Differs
+
+pub a-match : (vars : List Datum) (a : Action) (t : Slot) → meets vars a (t .count) (t .contents) ≡ true → Match.Matches ≡ matchOf vars a t
+unfolding matchOf
+a-match vars a t h = rw h
+
+pub no-match : (vars : List Datum) (a : Action) (t : Slot) → meets vars a (t .count) (t .contents) ≡ false → Match.Differs ≡ matchOf vars a t
+unfolding matchOf
+no-match vars a t h = rw h
 
 -- ---- what the answer says
 
@@ -81,19 +93,19 @@ abbrev matchNumber : Match → ℕ
 matchNumber Match.Matches = 1
 matchNumber Match.Differs = 0
 
-module _ (vars : List Datum) (a : Action) (count : ℕ) (fields : List Datum) where
-  pub matches-meets : matchOf vars a count fields .answer ≡ Match.Matches → meets vars a count fields ≡ true
+module _ (vars : List Datum) (a : Action) (t : Slot) where
+  pub matches-meets : matchOf vars a t ≡ Match.Matches → meets vars a (t .count) (t .contents) ≡ true
   unfolding matchOf
   matches-meets e =
-      cases (meets vars a count fields) (λ t. t) (λ t. absurd (apart (ap matchNumber (rw t at e))))
+      cases (meets vars a (t .count) (t .contents)) (λ q. q) (λ q. absurd (apart (ap matchNumber (rw q at e))))
     where
       apart : _≡_ {A = ℕ} 0 1 → ⊥
       apart z = omega arith
 
-  pub differs-not : matchOf vars a count fields .answer ≡ Match.Differs → meets vars a count fields ≡ false
+  pub differs-not : matchOf vars a t ≡ Match.Differs → meets vars a (t .count) (t .contents) ≡ false
   unfolding matchOf
   differs-not e =
-      cases (meets vars a count fields) (λ t. absurd (apart (ap matchNumber (rw t at e)))) (λ t. t)
+      cases (meets vars a (t .count) (t .contents)) (λ q. absurd (apart (ap matchNumber (rw q at e)))) (λ q. q)
     where
       apart : _≡_ {A = ℕ} 1 0 → ⊥
       apart z = omega arith

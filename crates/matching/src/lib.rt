@@ -1,13 +1,25 @@
-// What a process's fields stand for, where it acts, and whether its template meets a tuple. Each answers an enum of its own; the
-// variables that a match binds stand beside its answer, since an enum holds no array.
+// What a process's fields stand for, where it acts, and whether its template meets a tuple: each answers an enum of its own. The process is a
+// value, its eight variables; a node and a tuple are looked at where they stand, in their 32 and 56 bytes.
 ghost use mathlib.Core.Path.{_≡_};
+ghost use Prim.Native.Nat.{_<_};
+ghost use lib.ListN.{set};
+ghost use Rattle.names.specs.Names.{variableCount};
+ghost use Rattle.images.specs.Sizes.{NodeSized, SlotSized, Sized};
+ghost use Rattle.images.specs.Read.{actionOf, slotOf};
 ghost use Rattle.matching.specs.Evaluate.{actual, evaluated, placeOf, targetOf, isReady, fieldsReady, variableOf};
-ghost use Rattle.matching.specs.Match.{fieldMeets, placeMeets, meets, withVariable, binds, bound, matchOf};
+ghost use Rattle.matching.specs.Match.{fieldMeets, placeMeets, bound, matchOf};
+ghost use Rattle.matching.specs.Bound.{bindPut, boundPut};
 use images::Action;
 use images::Datum;
 use images::Field;
+use images::net_image::put_variable;
+use images::net_image::slot_of;
+use images::script_image::action_of;
+use names::Key;
 use names::Locality;
+use names::LocalityRead;
 use names::Variable;
+use names::VariableRead;
 
 // What a field stands for.
 pub enum Evaluated {
@@ -30,25 +42,20 @@ pub enum Match {
     Differs,
 }
 
-// A match's answer, and the process's variables with what it bound.
-pub struct Matching {
-    pub answer: Match,
-    pub contents: [Datum; Variable::COUNT],
-}
-
 // ---- evaluating
 
-fn variable_of(vars: [Datum; Variable::COUNT], v: u32) -> Datum
-    ensures { λ r. ⌜ r ≡ variableOf vars v ⌝ }
+// The variable of this number; unset where there is none.
+fn variable_of(vars: [Datum; Variable::COUNT], x: u32) -> Datum
+    ensures { λ r. ⌜ r ≡ variableOf vars x ⌝ }
 {
-    if Field::NAMES <= v {
+    let read = Variable::of_number(x);
+    let VariableRead::Variable(v) = read else {
         return Datum {
             tag: Datum::UNSET,
             number: 0,
         };
-    }
-    let i = v as usize;
-    vars[i]
+    };
+    vars[v.0 as usize]
 }
 
 // What the field stands for as a datum: unset where the variable is.
@@ -64,7 +71,7 @@ pub fn actual_of(vars: [Datum; Variable::COUNT], f: Field) -> Datum
     }
 }
 
-pub fn evaluate(vars: [Datum; Variable::COUNT], f: Field) -> Evaluated
+fn evaluate(vars: [Datum; Variable::COUNT], f: Field) -> Evaluated
     ensures { λ r. ⌜ r ≡ evaluated vars f ⌝ }
 {
     let d = actual_of(vars, f);
@@ -80,11 +87,11 @@ fn place_of(d: Datum) -> Target
     if d.tag != Datum::LOCALITY {
         return Target::Missing;
     }
-    if !Locality::is_number(d.number) {
+    let read = Locality::of_number(d.number);
+    let LocalityRead::Locality(l) = read else {
         return Target::Missing;
-    }
-    let n = (d.number % 256) as u8;
-    Target::At(Locality(n))
+    };
+    Target::At(l)
 }
 
 pub fn find_target(vars: [Datum; Variable::COUNT], f: Field) -> Target
@@ -94,6 +101,7 @@ pub fn find_target(vars: [Datum; Variable::COUNT], f: Field) -> Target
     place_of(d)
 }
 
+// A field past the count and a formal need no value.
 fn is_ready(vars: [Datum; Variable::COUNT], count: u8, j: u8, f: Field) -> bool
     ensures { λ r. ⌜ r ≡ isReady vars count j f ⌝ }
 {
@@ -103,8 +111,11 @@ fn is_ready(vars: [Datum; Variable::COUNT], count: u8, j: u8, f: Field) -> bool
     if Field::VALUE_FORMAL <= f.tag {
         return true;
     }
-    let d = actual_of(vars, f);
-    d.tag != Datum::UNSET
+    let found = evaluate(vars, f);
+    let Evaluated::Set(_) = found else {
+        return false;
+    };
+    true
 }
 
 // Every field of the node that is no formal is set.
@@ -113,7 +124,7 @@ pub fn fields_ready(vars: [Datum; Variable::COUNT], a: Action) -> bool
 {
     let fields = a.fields;
     let mut j: u8 = 0;
-    while j < 4 {
+    while j < Field::COUNT as u8 {
         let f = fields[j as usize];
         if !is_ready(vars, a.count, j, f) {
             return false;
@@ -147,52 +158,40 @@ fn place_meets(vars: [Datum; Variable::COUNT], count: u8, j: u8, f: Field, d: Da
     true
 }
 
-// A node's template against a tuple of so many fields.
-pub fn template_meets(
-    vars: [Datum; Variable::COUNT],
-    a: Action,
-    count: u8,
-    tuple: [Datum; Variable::COUNT],
-) -> bool
-    ensures { λ r. ⌜ r ≡ meets vars a count tuple ⌝ }
+// A node's template against a tuple, with the process's variables as they stand.
+pub fn match_tuple(vars: [Datum; Variable::COUNT], node: &[u8], tuple: &[u8]) -> Match
+    requires { ⌜ NodeSized (now node) × SlotSized (now tuple) ⌝ }
+    ensures { λ r. ⌜ r ≡ matchOf vars (actionOf (now (node .entry))) (slotOf (now (tuple .entry))) ⌝ }
 {
-    if a.count != count {
-        return false;
+    let a = action_of(node);
+    let t = slot_of(tuple);
+    if a.count != t.count {
+        return Match::Differs;
     }
     let fields = a.fields;
+    let met = t.contents;
     let mut j: u8 = 0;
-    while j < 4 {
+    while j < Field::COUNT as u8 {
         let f = fields[j as usize];
-        let d = tuple[j as usize];
+        let d = met[j as usize];
         if !place_meets(vars, a.count, j, f, d) {
-            return false;
+            return Match::Differs;
         }
         j += 1;
     }
-    true
+    Match::Matches
 }
+
+// ---- binding
 
 // The variables with this one set.
-pub fn with_variable(vars: [Datum; Variable::COUNT], v: u32, d: Datum) -> [Datum; Variable::COUNT]
-    ensures { λ r. ⌜ r ≡ withVariable vars v d ⌝ }
+pub fn with_variable(vars: [Datum; Variable::COUNT], v: Variable, d: Datum) -> [Datum; Variable::COUNT]
+    requires { ⌜ v .0 < variableCount ⌝ }
+    ensures { λ r. ⌜ r ≡ set vars (v .0) d ⌝ }
 {
-    if Field::NAMES <= v {
-        return vars;
-    }
-    let i = v as usize;
     let mut next = vars;
-    next[i] = d;
+    next[v.0 as usize] = d;
     next
-}
-
-// A formal, and its variable is one.
-fn binds(f: Field) -> bool
-    ensures { λ r. ⌜ r ≡ binds f ⌝ }
-{
-    if f.tag < Field::VALUE_FORMAL {
-        return false;
-    }
-    f.number < Field::NAMES
 }
 
 // The variables with every formal of the node's template bound to the tuple's field.
@@ -210,33 +209,46 @@ pub fn bind(
         let i = j;
         j += 1;
         let f = fields[i];
-        if !binds(f) {
+        if f.tag < Field::VALUE_FORMAL {
             continue;
         }
+        let read = Variable::of_number(f.number);
+        let VariableRead::Variable(v) = read else {
+            continue;
+        };
         let d = tuple[i];
-        next[f.number as usize] = d;
+        next[v.0 as usize] = d;
     }
     next
 }
 
-// A node's template against a tuple of so many fields: whether they match, and the variables then.
-pub fn match_tuple(
-    vars: [Datum; Variable::COUNT],
-    a: Action,
-    count: u8,
-    tuple: [Datum; Variable::COUNT],
-) -> Matching
-    ensures { λ r. ⌜ r ≡ matchOf vars a count tuple ⌝ }
+// A formal's variable takes the field that it met, in the process with this key.
+fn bind_field(f: Field, d: Datum, k: Key, net: &mut [u8])
+    requires { ⌜ Sized (now net) ⌝ }
+    ensures { λ _. ⌜ now (net .exit) ≡ bindPut f d k (now (net .entry)) ⌝ }
 {
-    if !template_meets(vars, a, count, tuple) {
-        return Matching {
-            answer: Match::Differs,
-            contents: vars,
-        };
+    if f.tag < Field::VALUE_FORMAL {
+        return;
     }
-    let contents = bind(vars, a, tuple);
-    Matching {
-        answer: Match::Matches,
-        contents,
+    let read = Variable::of_number(f.number);
+    let VariableRead::Variable(v) = read else {
+        return;
+    };
+    put_variable(k, v, d, net);
+}
+
+// Every formal of the node's template takes the field that it met, in the process with this key, where it lies in the net.
+pub fn bind_in(node: &[u8], met: [Datum; Variable::COUNT], k: Key, net: &mut [u8])
+    requires { ⌜ NodeSized (now node) × Sized (now net) ⌝ }
+    ensures { λ _. ⌜ now (net .exit) ≡ boundPut (actionOf (now (node .entry))) met k (now (net .entry)) ⌝ }
+{
+    let a = action_of(node);
+    let fields = a.fields;
+    let mut j: usize = 0;
+    while j < Field::COUNT {
+        let f = fields[j];
+        let d = met[j];
+        bind_field(f, d, k, net);
+        j += 1;
     }
 }

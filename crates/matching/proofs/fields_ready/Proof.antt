@@ -22,6 +22,9 @@ abbrev μ-loop : tie.MeasureT-loop
 loop-holds : tie.Need-loop-holds Inv-loop μ-loop
 loop-holds c = (search needs, below-none _)
 
+cast-loop : tie.Need-cast-loop Inv-loop μ-loop
+cast-loop c = search needs
+
 cast-f : tie.Need-cast-f Inv-loop μ-loop
 cast-f c = search needs
 
@@ -61,6 +64,7 @@ fields-ready-spec =
     Inv-loop
     μ-loop
     loop-holds
+    cast-loop
     cast-f
     mul-f
     array-copy-out-f
