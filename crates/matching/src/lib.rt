@@ -185,7 +185,11 @@ pub fn match_tuple(vars: [Datum; Variable::COUNT], node: &[u8], tuple: &[u8]) ->
 // ---- binding
 
 // The variables with this one set.
-pub fn with_variable(vars: [Datum; Variable::COUNT], v: Variable, d: Datum) -> [Datum; Variable::COUNT]
+pub fn with_variable(
+    vars: [Datum; Variable::COUNT],
+    v: Variable,
+    d: Datum,
+) -> [Datum; Variable::COUNT]
     requires { ⌜ v .0 < variableCount ⌝ }
     ensures { λ r. ⌜ r ≡ set vars (v .0) d ⌝ }
 {

@@ -93,11 +93,15 @@ unfoldable pub targetThere : ℕ → Localities → Locality → Bool
 targetThere kind present l = hasTarget kind ⇒ (isLocality l && holds present l)
 
 -- ---- the continuation
+-- a locality as what a variable holds
+abbrev pub madeDatum : Locality → Datum
+madeDatum l = record { tag = 2; number = l .0 }
+
 -- "an in or read binds its formals, newloc binds its variable"
 unfoldable pub variablesAfter : Action → List Datum → List Datum → Locality → List Datum
 variablesAfter a vars fields l =
     pick (meetsTuple (a .kind)) (bound vars a fields)
-    (pick (isNewloc (a .kind)) (withVariable vars (a .target .number) (record { tag = 2; number = l .0 })) vars)
+    (pick (isNewloc (a .kind)) (withVariable vars (a .target .number) (madeDatum l)) vars)
 
 -- "the node's reference, if any, takes the old key"
 unfoldable pub referencesAfter : Action → Key → List Key → List Key
@@ -179,27 +183,3 @@ secondMade s b = secondBy (action s b) b
 -- what stands at the second key once it is made: a live tuple, or a live process
 unfoldable pub secondSlot : Action → Body → Slot
 secondSlot a b = pick (isOut (a .kind)) (liveTuple (tupleBy a b)) (liveProcess (processBy a b))
-
--- check 7 as an answer
-unfoldable pub readiness : Action → List Datum → Readiness
-readiness a vars = pick (readyBy a vars) Readiness.Ready Readiness.Unset
-
-abbrev readyNumber : Readiness → ℕ
-readyNumber Readiness.Ready = 1
-readyNumber Readiness.Unset = 0
-
-pub ready-true : (a : Action) (vars : List Datum) → readiness a vars ≡ Readiness.Ready → readyBy a vars ≡ true
-unfolding readiness
-ready-true a vars e =
-    cases (readyBy a vars) (λ t. t) (λ t. absurd (apart (ap readyNumber (rw t at e))))
-  where
-    apart : _≡_ {A = ℕ} 0 1 → ⊥
-    apart z = omega arith
-
-pub unset-false : (a : Action) (vars : List Datum) → readiness a vars ≡ Readiness.Unset → readyBy a vars ≡ false
-unfolding readiness
-unset-false a vars e =
-    cases (readyBy a vars) (λ t. absurd (apart (ap readyNumber (rw t at e)))) (λ t. t)
-  where
-    apart : _≡_ {A = ℕ} 1 0 → ⊥
-    apart z = omega arith

@@ -4,16 +4,20 @@ ghost use mathlib.Core.Path.{_≡_};
 ghost use mathlib.Core.Bool.{true};
 ghost use Rattle.laws.specs.Choice.{pick};
 ghost use Rattle.laws.specs.Lists.{tab};
-ghost use Rattle.names.specs.Names.{locality};
 ghost use Rattle.images.specs.Net.{datum0};
+ghost use Rattle.images.specs.Read.{actionOf};
 ghost use Rattle.images.specs.Script.{fieldAt};
-ghost use Rattle.matching.specs.Evaluate.{targetOf, fieldsReady, actual};
-ghost use Rattle.products.specs.Body.{bodyOf, liveProcess, liveTuple};
-ghost use Rattle.products.specs.Products.{isStep, isOut, meetsTuple, makesSecond, hasTarget, hasFields, isFound, targetBy, targetThere, readiness, variablesAfter, referencesAfter, continuedBy, tupleBy, fieldMade, processBy, secondSlot};
+ghost use Rattle.images.specs.Sizes.{NodeSized};
+ghost use Rattle.matching.specs.Evaluate.{fieldsReady, actual};
+ghost use Rattle.matching.specs.Match.{withVariable};
+ghost use Rattle.products.specs.Body.{bodyOf, liveProcess};
+ghost use Rattle.products.specs.Products.{isStep, isOut, meetsTuple, makesSecond, hasTarget, hasFields, targetThere, variablesAfter, referencesAfter, continuedBy, fieldMade, madeDatum};
+ghost use Rattle.products.specs.Acting.{actingAt, readiness, tupleAt, processAt, secondAt};
 use images::Action;
 use images::Datum;
 use images::Field;
 use images::Slot;
+use images::script_image::action_of;
 use matching::Target;
 use matching::actual_of;
 use matching::bind;
@@ -26,10 +30,12 @@ use names::Locality;
 use names::Node;
 use names::Reference;
 use names::Variable;
+use names::VariableRead;
 
 // Whether what a node needs can be evaluated.
 pub enum Readiness {
-    Ready,
+    // It can, and the step acts here: at the node's target, or, where it has none, where the process is.
+    Ready(Locality),
     // The target or an actual field is an unset variable, or the target is no locality.
     Unset,
 }
@@ -86,18 +92,6 @@ pub fn has_fields(kind: u8) -> bool
 
 // ---- the target, and whether all can be evaluated
 
-// Where the node acts; locality 0 where its target cannot be evaluated.
-pub fn target_of(a: Action, vars: [Datum; Variable::COUNT]) -> Locality
-    ensures { λ r. ⌜ r ≡ locality (targetBy a vars) ⌝ }
-{
-    let f = a.target;
-    let t = find_target(vars, f);
-    match t {
-        Target::At(l) => l,
-        Target::Missing => Locality(0),
-    }
-}
-
 // Where the node acts at a target, that locality is present.
 pub fn target_there(kind: u8, present: Localities, l: Locality) -> bool
     ensures { λ r. ⌜ r ≡ targetThere kind present l ⌝ }
@@ -111,18 +105,15 @@ pub fn target_there(kind: u8, present: Localities, l: Locality) -> bool
     present.has(l)
 }
 
-fn target_found(a: Action, vars: [Datum; Variable::COUNT]) -> bool
-    ensures { λ r. ⌜ r ≡ pick (hasTarget (a .kind)) (isFound (targetOf vars (a .target))) true ⌝ }
+// Where the step acts: at the node's target, or, where it has none, where the process is.
+fn acting_at(a: Action, own: Locality, vars: [Datum; Variable::COUNT]) -> Target
+    ensures { λ r. ⌜ r ≡ actingAt a own vars ⌝ }
 {
     if !has_target(a.kind) {
-        return true;
+        return Target::At(own);
     }
     let f = a.target;
-    let t = find_target(vars, f);
-    match t {
-        Target::At(_) => true,
-        Target::Missing => false,
-    }
+    find_target(vars, f)
 }
 
 fn fields_found(a: Action, vars: [Datum; Variable::COUNT]) -> bool
@@ -134,19 +125,38 @@ fn fields_found(a: Action, vars: [Datum; Variable::COUNT]) -> bool
     fields_ready(vars, a)
 }
 
-pub fn evaluable(a: Action, vars: [Datum; Variable::COUNT]) -> Readiness
-    ensures { λ r. ⌜ r ≡ readiness a vars ⌝ }
+// The target and the actual fields of a node, evaluated with the variables of a process that is here.
+pub fn evaluable(vars: [Datum; Variable::COUNT], own: Locality, node: &[u8]) -> Readiness
+    requires { ⌜ NodeSized (now node) ⌝ }
+    ensures { λ r. ⌜ r ≡ readiness (actionOf (now (node .entry))) own vars ⌝ }
 {
-    if !target_found(a, vars) {
+    let a = action_of(node);
+    let target = acting_at(a, own, vars);
+    let Target::At(l) = target else {
         return Readiness::Unset;
-    }
+    };
     if !fields_found(a, vars) {
         return Readiness::Unset;
     }
-    Readiness::Ready
+    Readiness::Ready(l)
 }
 
 // ---- the continuation
+
+// "newloc binds its variable": it takes the locality that was made.
+fn with_place(vars: [Datum; Variable::COUNT], a: Action, l: Locality) -> [Datum; Variable::COUNT]
+    ensures { λ r. ⌜ r ≡ withVariable vars (a .target .number) (madeDatum l) ⌝ }
+{
+    let read = Variable::of_number(a.target.number);
+    let VariableRead::Variable(v) = read else {
+        return vars;
+    };
+    let d = Datum {
+        tag: Datum::LOCALITY,
+        number: l.0 as u32,
+    };
+    with_variable(vars, v, d)
+}
 
 fn variables_after(
     a: Action,
@@ -160,11 +170,7 @@ fn variables_after(
         return bind(vars, a, fields);
     }
     if a.kind == Action::NEWLOC {
-        let d = Datum {
-            tag: Datum::LOCALITY,
-            number: l.0 as u32,
-        };
-        return with_variable(vars, a.target.number, d);
+        return with_place(vars, a, l);
     }
     vars
 }
@@ -204,19 +210,14 @@ fn live_process(
     }
 }
 
-// What follows the process with this key: from the fields of the tuple that it met, with the locality that it made.
-pub fn continuation(
-    a: Action,
-    k: Key,
-    x: Slot,
-    fields: [Datum; Variable::COUNT],
-    l: Locality,
-) -> Slot
-    ensures { λ r. ⌜ r ≡ liveProcess (continuedBy a k (bodyOf x) fields l) ⌝ }
+// What follows the event with this key: from the fields of the tuple that it met, with the locality that it made.
+pub fn continuation(a: Action, k: Key, x: Slot, fields: [Datum; Variable::COUNT]) -> Slot
+    ensures { λ r. ⌜ r ≡ liveProcess (continuedBy a k (bodyOf x) fields (x .place)) ⌝ }
 {
     let vars = x.contents;
     let old = x.refs;
-    let contents = variables_after(a, vars, fields, l);
+    let place = x.place;
+    let contents = variables_after(a, vars, fields, place);
     let refs = references_after(a, k, old);
     let locality = x.locality;
     let node = a.next;
@@ -253,15 +254,14 @@ fn fields_made(a: Action, vars: [Datum; Variable::COUNT]) -> [Datum; Variable::C
     [d0, d1, d2, d3, unset, unset, unset, unset]
 }
 
-fn tuple_made(a: Action, x: Slot) -> Slot
-    ensures { λ r. ⌜ r ≡ liveTuple (tupleBy a (bodyOf x)) ⌝ }
+fn tuple_made(a: Action, x: Slot, at: Locality) -> Slot
+    ensures { λ r. ⌜ r ≡ tupleAt a (bodyOf x) at ⌝ }
 {
     let vars = x.contents;
     let contents = fields_made(a, vars);
-    let locality = target_of(a, vars);
     Slot {
         kind: Slot::TUPLE,
-        locality,
+        locality: at,
         node: Node(0),
         count: a.count,
         first: Key::NONE,
@@ -273,34 +273,22 @@ fn tuple_made(a: Action, x: Slot) -> Slot
     }
 }
 
-// Where the second process of an eval or a split goes.
-fn process_at(a: Action, x: Slot) -> Locality
-    ensures { λ r. ⌜ r ≡ processBy a (bodyOf x) .locality ⌝ }
-{
-    if a.kind == Action::EVAL {
-        let vars = x.contents;
-        return target_of(a, vars);
-    }
-    x.locality
-}
-
 // It has the variables and references of the process as it was.
-fn process_made(a: Action, x: Slot) -> Slot
-    ensures { λ r. ⌜ r ≡ liveProcess (processBy a (bodyOf x)) ⌝ }
+fn process_made(a: Action, x: Slot, at: Locality) -> Slot
+    ensures { λ r. ⌜ r ≡ processAt a (bodyOf x) at ⌝ }
 {
-    let locality = process_at(a, x);
     let node = a.other;
     let contents = x.contents;
     let refs = x.refs;
-    live_process(locality, node, contents, refs)
+    live_process(at, node, contents, refs)
 }
 
-// What an out, an eval or a split makes at its second key.
-pub fn second_made(a: Action, x: Slot) -> Slot
-    ensures { λ r. ⌜ r ≡ secondSlot a (bodyOf x) ⌝ }
+// What an out, an eval or a split makes at its second key, where the step acts.
+pub fn second_made(a: Action, x: Slot, at: Locality) -> Slot
+    ensures { λ r. ⌜ r ≡ secondAt a (bodyOf x) at ⌝ }
 {
     if a.kind == Action::OUT {
-        return tuple_made(a, x);
+        return tuple_made(a, x, at);
     }
-    process_made(a, x)
+    process_made(a, x, at)
 }

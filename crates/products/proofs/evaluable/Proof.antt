@@ -1,33 +1,55 @@
--- `evaluable` meets its contract. Assumes nothing.
-use mathlib.Core.Path.{_≡_, _∙_, sym, ap}
-use borrow.Author.Tests.{eq-eqb, ne-eqb, lt-ltb, le-ltb, not-true, not-false}
-use Rattle.products.specs.Products.{readiness, readyBy}
+-- `evaluable` meets its contract: the first that cannot be evaluated ends it. Assumes nothing.
+use mathlib.Core.Path.{_∙_, sym}
+use borrow.Author.Tests.{not-true, not-false}
+use Rattle.products.specs.Acting.{readiness, ready-missing, ready-not, ready-at}
 use borrow.Author.Needs.{needs}
 use Rattle.products.proofs.evaluable.Statement.{statement}
 use Rattle.products.proofs.evaluable.Tie as tie
 use Rattle.products.proofs.evaluable.Reads as reads
 use Rattle.products.proofs.evaluable.Lts as lts
+use Rattle.images.proofs.script_image.action_of.Reads as action-of-reads
+use Rattle.products.proofs.acting_at.Reads as acting-at-reads
 use Rattle.products.proofs.fields_found.Reads as fields-found-reads
-use Rattle.products.proofs.target_found.Reads as target-found-reads
 
-target-found-requires : tie.Need-target-found-requires
-target-found-requires c κs = search needs
+action-of-requires : tie.Need-action-of-requires
+action-of-requires c κs = search needs
+
+acting-at-requires : tie.Need-acting-at-requires
+acting-at-requires c κs = search needs
+
+enum-known-target : tie.Need-enum-known-target
+enum-known-target c = search needs
+
+enum-told : tie.Need-enum-told
+enum-told c = search needs
 
 returns : tie.Need-returns
-unfolding readiness readyBy
-returns c = rw (sym (c .before .target-found .ensures) ∙ not-true _ (c .if1 .taken))
+returns c =
+    ready-missing (c .before .before .before .action-of .result) _ _ (sym (c .enum-told .given .1) ∙ c .before .before .acting-at .ensures) ∙
+    (λ i. readiness (c .before .before .before .action-of .ensures i) (c .before .before .before .before .before .args .own) (c .before .before .before .before .before .args .vars))
 
 fields-found-requires : tie.Need-fields-found-requires
 fields-found-requires c κs = search needs
 
 returns-2 : tie.Need-returns-2
-unfolding readiness readyBy
-returns-2 c = rw (sym (c .before .before .before .target-found .ensures) ∙ not-false _ (c .before .before .if1 .left), sym (c .before .fields-found .ensures) ∙ not-true _ (c .if2 .taken))
+returns-2 c =
+    ready-not (c .before .before .before .before .before .before .action-of .result) _ _ _ (sym (c .before .before .before .target .given .1) ∙ c .before .before .before .before .before .acting-at .ensures) (sym (c .before .fields-found .ensures) ∙ not-true _ (c .if1 .taken)) ∙
+    (λ i. readiness (c .before .before .before .before .before .before .action-of .ensures i) (c .before .before .before .before .before .before .before .before .args .own) (c .before .before .before .before .before .before .before .before .args .vars))
 
 returns-3 : tie.Need-returns-3
-unfolding readiness readyBy
-returns-3 c = rw (sym (c .before .before .before .target-found .ensures) ∙ not-false _ (c .before .before .if1 .left), sym (c .before .fields-found .ensures) ∙ not-false _ (c .if2 .left))
+returns-3 c =
+    ready-at (c .before .before .before .before .before .before .action-of .result) _ _ _ (sym (c .before .before .before .target .given .1) ∙ c .before .before .before .before .before .acting-at .ensures) (sym (c .before .fields-found .ensures) ∙ not-false _ (c .if1 .left)) ∙
+    (λ i. readiness (c .before .before .before .before .before .before .action-of .ensures i) (c .before .before .before .before .before .before .before .before .args .own) (c .before .before .before .before .before .before .before .before .args .vars))
 
 pub evaluable-spec : {M : Type 1} → statement M
 evaluable-spec =
-    tie.close (tie.spec target-found-requires returns fields-found-requires returns-2 returns-3)
+    tie.close
+    (tie.spec
+    action-of-requires
+    acting-at-requires
+    enum-known-target
+    enum-told
+    returns
+    fields-found-requires
+    returns-2
+    returns-3)

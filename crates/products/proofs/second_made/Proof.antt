@@ -1,6 +1,6 @@
 -- `second_made` meets its contract. Assumes nothing.
-use borrow.Author.Tests.{eq-eqb, ne-eqb, lt-ltb, le-ltb, not-true, not-false}
-use Rattle.products.specs.Products.{secondSlot}
+use borrow.Author.Tests.{eq-eqb, ne-eqb}
+use Rattle.products.specs.Acting.{secondAt}
 use borrow.Author.Needs.{needs}
 use Rattle.products.proofs.second_made.Statement.{statement}
 use Rattle.products.proofs.second_made.Tie as tie
@@ -13,14 +13,14 @@ tuple-made-requires : tie.Need-tuple-made-requires
 tuple-made-requires c κs = search needs
 
 returns : tie.Need-returns
-unfolding secondSlot
+unfolding secondAt
 returns c = rw (eq-eqb _ _ (c .before .if1 .taken), c .tuple-made .ensures)
 
 process-made-requires : tie.Need-process-made-requires
 process-made-requires c κs = search needs
 
 returns-2 : tie.Need-returns-2
-unfolding secondSlot
+unfolding secondAt
 returns-2 c = rw (ne-eqb _ _ (c .before .if1 .left), c .process-made .ensures)
 
 pub second-made-spec : {M : Type 1} → statement M

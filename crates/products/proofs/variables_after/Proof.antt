@@ -1,6 +1,6 @@
 -- `variables_after` meets its contract. Assumes nothing.
-use mathlib.Core.Path.{_≡_, _∙_, sym, ap}
-use borrow.Author.Tests.{eq-eqb, ne-eqb, lt-ltb, le-ltb, not-true, not-false}
+use mathlib.Core.Path.{_∙_, sym}
+use borrow.Author.Tests.{eq-eqb, ne-eqb}
 use Rattle.products.specs.Products.{variablesAfter}
 use borrow.Author.Needs.{needs}
 use Rattle.products.proofs.variables_after.Statement.{statement}
@@ -8,8 +8,8 @@ use Rattle.products.proofs.variables_after.Tie as tie
 use Rattle.products.proofs.variables_after.Reads as reads
 use Rattle.products.proofs.variables_after.Lts as lts
 use Rattle.matching.proofs.bind.Reads as bind-reads
-use Rattle.matching.proofs.with_variable.Reads as with-variable-reads
 use Rattle.products.proofs.meets_tuple.Reads as meets-tuple-reads
+use Rattle.products.proofs.with_place.Reads as with-place-reads
 
 meets-tuple-requires : tie.Need-meets-tuple-requires
 meets-tuple-requires c κs = search needs
@@ -21,15 +21,12 @@ returns : tie.Need-returns
 unfolding variablesAfter
 returns c = rw (sym (c .before .before .meets-tuple .ensures) ∙ c .before .if1 .taken, c .bind .ensures)
 
-cast-t8 : tie.Need-cast-t8
-cast-t8 c = search needs
-
-with-variable-requires : tie.Need-with-variable-requires
-with-variable-requires c κs = search needs
+with-place-requires : tie.Need-with-place-requires
+with-place-requires c κs = search needs
 
 returns-2 : tie.Need-returns-2
 unfolding variablesAfter
-returns-2 c = rw (sym (c .before .before .before .before .before .meets-tuple .ensures) ∙ c .before .before .before .before .if1 .left, eq-eqb _ _ (c .before .before .if2 .taken), c .with-variable .ensures)
+returns-2 c = rw (sym (c .before .before .before .before .meets-tuple .ensures) ∙ c .before .before .before .if1 .left, eq-eqb _ _ (c .before .if2 .taken), c .with-place .ensures)
 
 returns-3 : tie.Need-returns-3
 unfolding variablesAfter
@@ -38,11 +35,4 @@ returns-3 c = rw (sym (c .before .before .before .meets-tuple .ensures) ∙ c .b
 pub variables-after-spec : {M : Type 1} → statement M
 variables-after-spec =
     tie.close
-    (tie.spec
-    meets-tuple-requires
-    bind-requires
-    returns
-    cast-t8
-    with-variable-requires
-    returns-2
-    returns-3)
+    (tie.spec meets-tuple-requires bind-requires returns with-place-requires returns-2 returns-3)
