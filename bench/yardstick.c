@@ -880,14 +880,17 @@ static int run_calls(void) {
 
 /* ---- yardstick time. */
 
-static void read_file(struct bytes *into, const char *name) {
+enum { MOST_REQUESTS = 1 << 16 };
+
+static size_t read_file(uint8_t *into, size_t room, const char *name) {
     FILE *file = fopen(name, "rb");
     if (file == NULL) {
         perror(name);
         exit(1);
     }
-    into->length = fread(into->bytes, 1, sizeof into->bytes, file);
+    size_t length = fread(into, 1, room, file);
     fclose(file);
+    return length;
 }
 
 static double nanoseconds_now(void) {
@@ -901,16 +904,16 @@ static uint64_t (*volatile timed_call)(const uint8_t *, size_t, uint8_t *, size_
                                        size_t) = rewind_call;
 
 static int run_time(char **files, long calls) {
-    static struct bytes script, net, requests;
-    read_file(&script, files[0]);
-    read_file(&net, files[1]);
-    read_file(&requests, files[2]);
+    static uint8_t script[LONGEST_IMAGE], net[LONGEST_IMAGE];
+    static uint8_t requests[MOST_REQUESTS * REWIND_REQUEST_LENGTH];
+    size_t script_length = read_file(script, sizeof script, files[0]);
+    size_t net_length = read_file(net, sizeof net, files[1]);
+    size_t length = read_file(requests, sizeof requests, files[2]);
     double began = nanoseconds_now();
     for (size_t made = 0, at = 0; made < (size_t)calls; made++) {
-        timed_call(script.bytes, script.length, net.bytes, net.length, requests.bytes + at,
-                   REWIND_REQUEST_LENGTH);
+        timed_call(script, script_length, net, net_length, requests + at, REWIND_REQUEST_LENGTH);
         at += REWIND_REQUEST_LENGTH;
-        if (at + REWIND_REQUEST_LENGTH > requests.length) at = 0;
+        if (at + REWIND_REQUEST_LENGTH > length) at = 0;
     }
     printf("%.1f\n", (nanoseconds_now() - began) / (double)calls);
     return 0;

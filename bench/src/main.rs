@@ -1,13 +1,14 @@
 //! Prints how many requests a second `rewind` answers beside the second program
 //! and the yardstick on the same streams, how long a call on lent bytes takes
-//! beside the yardstick's, what it costs by the number of past events, and how
-//! much stack it takes. It asserts nothing.
+//! beside the yardstick's, what it costs by the number of past events, how much
+//! stack it takes, and what the walks are made up of. It asserts nothing.
 //!
 //! In the columns, "faster" is how many times as fast the proved program is as
 //! the second one, and "slower" how many times the yardstick's time it takes.
 
 mod images;
 mod stack;
+mod walk;
 mod yardstick;
 
 use images::{search, Images};
@@ -20,6 +21,7 @@ use std::hint::black_box;
 use std::path::{Path, PathBuf};
 use std::process::{Command, Stdio};
 use std::time::Instant;
+use walk::{walk, Walked};
 use yardstick::{file, Yardstick};
 
 const PROGRAM: &str = concat!(env!("CARGO_MANIFEST_DIR"), "/../target/bin/rewind");
@@ -27,12 +29,16 @@ const PROGRAM: &str = concat!(env!("CARGO_MANIFEST_DIR"), "/../target/bin/rewind
 /// program, which reads and accepts its images anew for each.
 const LONG: usize = 2_000_000;
 const SHORT: usize = 20_000;
-/// Calls of one measurement.
+/// Requests of the walk that is a stream, and of the one that is made by calls.
+const WALK: usize = 200_000;
+const WALK_OF_CALLS: usize = 1_000;
+/// Calls of one measurement, and as many more as it takes to end where they
+/// began.
 const CALLS: usize = 1_000;
 /// The yardstick does so many times as much in one measurement, so that it is
 /// watched for about as long as the proved program.
 const RUNS_OF_YARDSTICK: usize = 4;
-const CALLS_OF_YARDSTICK: usize = 2 * CALLS;
+const CALLS_OF_YARDSTICK: usize = 2;
 /// Measurements are short, many, and taken by turns, and the best of each
 /// counts: what else runs on the machine only adds.
 const ROUNDS_OF_STREAMS: usize = 20;
@@ -133,22 +139,32 @@ fn sort<'a>(name: &'a str, images: &'a Images, unit: &'a [u8]) -> Sort<'a> {
     Sort { name, images, unit }
 }
 
+fn walk_sort(walked: &Walked) -> Sort<'_> {
+    sort("a walk", &walked.images, &walked.requests)
+}
+
 impl Sort<'_> {
     fn head(&self) -> String {
         let (records, events) = (self.images.records(), self.images.events());
         format!("{:34} {records:7} {events:6}", self.name)
     }
 
-    /// Its stream as a file of that name; how many requests it has.
+    /// Its stream of so many requests, as a file of that name too.
     fn stream(&self, name: &str, requests: usize) -> Stream {
-        let images = [&self.images.script[..], &self.images.net].concat();
-        let turns = requests / (self.unit.len() / 6);
-        let bytes = [images, self.unit.repeat(turns)].concat();
+        let images = [&self.images.script[..], &self.images.net];
+        let unit = self.unit.chunks(6).cycle().take(requests);
+        let bytes: Vec<u8> = images.into_iter().chain(unit).flatten().copied().collect();
         Stream {
-            requests: (turns * self.unit.len() / 6) as f64,
+            requests: requests as f64,
             path: file(name, &bytes),
             bytes,
         }
+    }
+
+    /// How many calls are a measurement: whole turns of the unit.
+    fn calls(&self) -> usize {
+        let unit = self.unit.len() / 6;
+        CALLS.div_ceil(unit) * unit
     }
 }
 
@@ -196,8 +212,9 @@ fn compare_programs(sorts: &[Sort], yardstick: Option<&Yardstick>) {
 /// Rows of microseconds of a call.
 fn compare_calls(sorts: &[Sort], yardstick: Option<&Yardstick>) {
     let least = least_of(ROUNDS_OF_CALLS, sorts, |sort| {
-        let time = |it: &Yardstick| it.call_time(sort.images, sort.unit, CALLS_OF_YARDSTICK);
-        (call_time(sort.images, sort.unit), yardstick.map(time))
+        let more = CALLS_OF_YARDSTICK * sort.calls();
+        let time = |it: &Yardstick| it.call_time(sort.images, sort.unit, more);
+        (call_time(sort), yardstick.map(time))
     });
     for (sort, least) in sorts.iter().zip(&least) {
         println!(
@@ -219,13 +236,14 @@ fn second_speed(input: &[u8]) -> (f64, String) {
 }
 
 /// Microseconds of a call of the static library.
-fn call_time(images: &Images, unit: &[u8]) -> f64 {
-    let mut net = images.net.clone();
+fn call_time(sort: &Sort) -> f64 {
+    let mut net = sort.images.net.clone();
+    let calls = sort.calls();
     let began = Instant::now();
-    for request in unit.chunks(6).cycle().take(CALLS) {
-        black_box(call(&images.script, &mut net, request));
+    for request in sort.unit.chunks(6).cycle().take(calls) {
+        black_box(call(&sort.images.script, &mut net, request));
     }
-    began.elapsed().as_secs_f64() * 1e6 / CALLS as f64
+    began.elapsed().as_secs_f64() * 1e6 / calls as f64
 }
 
 /// A net with about so many past events.
@@ -247,6 +265,7 @@ fn main() {
     let (nearly_full, full_pair) = search(2, |i| full(i).then(|| i.there_and_back())?);
     let (deep, rolled) = search(3, |i| i.rollback_and_again(30));
     let refused = [9, 0, 0, 0, 0, 0];
+    let (walked, called) = (walk(5, WALK), walk(6, WALK_OF_CALLS));
     let sorts = [
         sort("backward and forward, half full", &half_full, &pair),
         sort(
@@ -257,18 +276,22 @@ fn main() {
         sort("a rollback of 30 and 30 forward", &deep, &rolled),
         sort("refused with 3, half full", &half_full, &refused),
     ];
+    let streams: Vec<Sort> = sorts.into_iter().chain([walk_sort(&walked)]).collect();
 
     println!("\nrequests a second                  records events      rewind   second   faster   yardstick  slower");
-    compare_programs(&sorts, yardstick);
+    compare_programs(&streams, yardstick);
+    println!("the walk: {}", walked.made_up);
     let by_events: Vec<Images> = (0..=60).step_by(10).map(with_events).collect();
     let refusals = by_events
         .iter()
         .map(|i| sort("refused with 3", i, &refused));
-    let calls: Vec<Sort> = sorts.iter().copied().chain(refusals).collect();
+    let calls = sorts.into_iter().chain([walk_sort(&called)]);
+    let calls: Vec<Sort> = calls.chain(refusals).collect();
     println!("\nmicroseconds of a call             records events     library yardstick  slower");
     compare_calls(&calls, yardstick);
+    println!("the walk: {}", called.made_up);
     println!("\nbytes of stack of a call           records events     library");
-    for sort in &sorts {
+    for sort in &streams {
         println!(
             "{} {:11}",
             sort.head(),

@@ -11,7 +11,7 @@ const STACK: usize = 2 << 20;
 /// So much below this function's own frame is painted, but for what is next to
 /// it, where the painting itself may stand.
 const PAINTED: usize = 1 << 20;
-const LEFT_OUT: usize = 4096;
+const LEFT_OUT: usize = 1024;
 
 /// The most of these requests, put to the net one after the other; a hundred
 /// bytes or two are the frames of the callers here.

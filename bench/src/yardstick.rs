@@ -79,10 +79,13 @@ pub fn file(name: &str, bytes: &[u8]) -> PathBuf {
 #[cfg(test)]
 mod tests {
     use super::*;
+    use crate::walk::walk;
     use reference::against::against;
     use reference::call_stream::calls;
     use reference::calls::answer_calls;
     use reference::gen::Generator;
+    use reference::program::rewind;
+    use reference::random::Random;
     use std::fs::File;
     use std::sync::OnceLock;
 
@@ -128,5 +131,23 @@ mod tests {
             .collect();
         assert_eq!(differences, Vec::<String>::new());
         assert!(generator.tally.lines >= LINES);
+    }
+
+    #[test]
+    fn every_request_of_a_walk_gets_the_second_programs_line() {
+        for seed in 1..=5 {
+            let walked = walk(seed, 10_000);
+            let images = [walked.images.script, walked.images.net].concat();
+            let stream = [images, walked.requests].concat();
+            let input = file("yardstick.walk", &stream);
+            let output = Command::new(program())
+                .arg("rewind")
+                .stdin(File::open(input).expect("the stream"))
+                .output()
+                .expect("the yardstick runs");
+            let printed = String::from_utf8_lossy(&output.stdout);
+            let expected = rewind(&stream, &mut Random::new(seed)).text();
+            assert!(expected == printed, "seed {seed}");
+        }
     }
 }
