@@ -1,15 +1,18 @@
 -- The code's requests and answers: document 01's number of each answer, and a request from its bytes.
--- In order: `number`, and the answer of a number (`answerOf`), which are each other's inverse (`number-of`, `answer-number`); what a call tells that is
--- refused (`refusal`); a request as the definitions take it (`asked`); `readRequest`.
+-- In order: `number`, the list of answers and the answer of a number (`answerOf`), which are each other's inverse (`answer-number`, `number-of`); an answer
+-- is done exactly where its number is 0 (`done-number`, `done-zero`), and one of the list (`number-listed`, `listed`); what a call tells that is refused
+-- (`refusal`); a request as the definitions take it (`asked`); `readRequest`, and a request whose names were read (`request-read`).
 -- Assumes nothing.
 use Prim.Native.Nat.{ℕ, zero, suc, _≤_}
-use mathlib.Core.Path.{_≡_, refl}
-use mathlib.Core.List.{List}
-use mathlib.Core.Bool.{Bool}
+use mathlib.Core.Path.{_≡_, refl, sym, ap, _∙_}
+use mathlib.Core.Logic.{_⊎_, inl, inr}
+use mathlib.Core.List.{List, [], _∷_}
+use mathlib.Core.Bool.{Bool, true, false, _&&_, not}
+use native.Mathlib.Omega.{arith}
 use lib.Dec.{eqb}
 use lib.ListN.{length, getD}
-use Rattle.laws.specs.Choice.{pick}
-use borrow.Author.Tests.{eq-eqb, le-leb}
+use Rattle.laws.specs.Choice.{pick, cases, clash, and-left, and-right}
+use borrow.Author.Tests.{eqb-true, eq-eqb, ne-eqb, le-leb, not-true}
 use Rattle.names.specs.Names.{key, locality, keyOf, keyOrNone, localityOrNone}
 use Rattle.names.specs.Reads.{key-read, key-or-none-read, locality-or-none-read}
 use Rattle.names.specs.declared.Key.{Key}
@@ -45,21 +48,24 @@ number Answer.NotUndoable = 12
 abbrev pub isDone : Answer → Bool
 isDone a = eqb (number a) 0
 
--- the answer with this number; a number above 12 is none's, and stands with the last
+-- document 01's table, in its order; a number may be left out
+abbrev pub refusals : List Answer
+refusals =
+    Answer.BadScript ∷ Answer.BadNet ∷ Answer.BadRequest ∷ Answer.WrongProcess ∷ Answer.WrongNode ∷ Answer.WrongPlaces ∷ Answer.Unset ∷
+    Answer.TargetAbsent ∷ Answer.NoTuple ∷ Answer.NoMatch ∷ Answer.NotFresh ∷ Answer.NotUndoable ∷ []
+
+abbrev pub answers : List Answer
+answers = Answer.Done ∷ refusals
+
+-- the answer of a list that has this number; another stands in where none has
+abbrev pub numbered : ℕ → Answer → List Answer → Answer
+numbered k other [] = other
+numbered k other (a ∷ rest) = pick (eqb k (number a)) a (numbered k other rest)
+
+-- the answer with this number; a number that is none's stands with the last (by cases, so that the answer of a number which is not known stays short)
 abbrev pub answerOf : ℕ → Answer
 answerOf zero = Answer.Done
-answerOf (suc zero) = Answer.BadScript
-answerOf (suc (suc zero)) = Answer.BadNet
-answerOf (suc (suc (suc zero))) = Answer.BadRequest
-answerOf (suc (suc (suc (suc zero)))) = Answer.WrongProcess
-answerOf (suc (suc (suc (suc (suc zero))))) = Answer.WrongNode
-answerOf (suc (suc (suc (suc (suc (suc zero)))))) = Answer.WrongPlaces
-answerOf (suc (suc (suc (suc (suc (suc (suc zero))))))) = Answer.Unset
-answerOf (suc (suc (suc (suc (suc (suc (suc (suc zero)))))))) = Answer.TargetAbsent
-answerOf (suc (suc (suc (suc (suc (suc (suc (suc (suc zero))))))))) = Answer.NoTuple
-answerOf (suc (suc (suc (suc (suc (suc (suc (suc (suc (suc zero)))))))))) = Answer.NoMatch
-answerOf (suc (suc (suc (suc (suc (suc (suc (suc (suc (suc (suc zero))))))))))) = Answer.NotFresh
-answerOf (suc (suc (suc (suc (suc (suc (suc (suc (suc (suc (suc (suc k)))))))))))) = Answer.NotUndoable
+answerOf (suc k) = numbered (suc k) Answer.NotUndoable refusals
 
 pub answer-number : (a : Answer) → answerOf (number a) ≡ a
 answer-number Answer.Done = refl
@@ -75,6 +81,75 @@ answer-number Answer.NoTuple = refl
 answer-number Answer.NoMatch = refl
 answer-number Answer.NotFresh = refl
 answer-number Answer.NotUndoable = refl
+
+no-zero : (k : ℕ) → eqb (suc k) 0 ≡ false
+no-zero k = ne-eqb (suc k) 0 (λ e. omega arith)
+
+-- a number that some answer of the list has
+abbrev pub isNumber : ℕ → List Answer → Bool
+isNumber k [] = false
+isNumber k (a ∷ rest) = pick (eqb k (number a)) true (isNumber k rest)
+
+number-in : (k : ℕ) (other : Answer) (l : List Answer) → isNumber k l ≡ true → number (numbered k other l) ≡ k
+number-in k other [] h = clash false h refl
+number-in k other (a ∷ rest) h =
+    cases (eqb k (number a)) (λ t. rw t (sym (eqb-true k (number a) t))) (λ t. rw t (number-in k other rest (rw t at h)))
+
+pub number-of : (k : ℕ) → isNumber k answers ≡ true → number (answerOf k) ≡ k
+number-of zero h = refl
+number-of (suc k) h = number-in (suc k) Answer.NotUndoable refusals (rw (no-zero k) at h)
+
+-- ---- the answer is done exactly where its number is 0
+
+abbrev noneDone : List Answer → Bool
+noneDone [] = true
+noneDone (a ∷ rest) = not (isDone a) && noneDone rest
+
+none-done : (k : ℕ) (other : Answer) (l : List Answer) → isDone other ≡ false → noneDone l ≡ true → isDone (numbered k other l) ≡ false
+none-done k other [] o h = o
+none-done k other (a ∷ rest) o h =
+    cases (eqb k (number a)) (λ t. rw t (not-true (isDone a) (and-left (not (isDone a)) _ h)))
+    (λ t. rw t (none-done k other rest o (and-right (not (isDone a)) _ h)))
+
+pub done-number : (k : ℕ) → isDone (answerOf k) ≡ eqb k 0
+done-number zero = refl
+done-number (suc k) = none-done (suc k) Answer.NotUndoable refusals refl refl ∙ sym (no-zero k)
+
+pub done-zero : (k : ℕ) → isDone (answerOf k) ≡ true → k ≡ 0
+done-zero k h = eqb-true k 0 (sym (done-number k) ∙ h)
+
+-- ---- every answer is one of the list
+
+abbrev pub Listed : Answer → List Answer → Type 0
+Listed a [] = ⊥
+Listed a (b ∷ bs) = (a ≡ b) ⊎ Listed a bs
+
+-- answers with the same number are the same
+pub same-number : (a b : Answer) → number a ≡ number b → a ≡ b
+same-number a b e = sym (answer-number a) ∙ ap answerOf e ∙ answer-number b
+
+listed-in : (a : Answer) (l : List Answer) → isNumber (number a) l ≡ true → Listed a l
+listed-in a [] h = clash false h refl
+listed-in a (b ∷ rest) h =
+    cases (eqb (number a) (number b)) (λ t. inl (same-number a b (eqb-true (number a) (number b) t))) (λ t. inr (listed-in a rest (rw t at h)))
+
+pub number-listed : (a : Answer) → isNumber (number a) answers ≡ true
+number-listed Answer.Done = refl
+number-listed Answer.BadScript = refl
+number-listed Answer.BadNet = refl
+number-listed Answer.BadRequest = refl
+number-listed Answer.WrongProcess = refl
+number-listed Answer.WrongNode = refl
+number-listed Answer.WrongPlaces = refl
+number-listed Answer.Unset = refl
+number-listed Answer.TargetAbsent = refl
+number-listed Answer.NoTuple = refl
+number-listed Answer.NoMatch = refl
+number-listed Answer.NotFresh = refl
+number-listed Answer.NotUndoable = refl
+
+pub listed : (a : Answer) → Listed a answers
+listed a = listed-in a answers (number-listed a)
 
 -- "any refusal leaves the net, with undone 0 and touched 0"
 abbrev pub refusal : Answer → Told
