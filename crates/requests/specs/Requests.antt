@@ -1,7 +1,8 @@
 -- The code's requests and answers: document 01's number of each answer, and a request from its bytes.
--- In order: `number`, the list of answers and the answer of a number (`answerOf`), which are each other's inverse (`answer-number`, `number-of`); an answer
--- is done exactly where its number is 0 (`done-number`, `done-zero`), and one of the list (`number-listed`, `listed`); what a call tells that is refused
--- (`refusal`); a request as the definitions take it (`asked`); `readRequest`, and a request whose names were read (`request-read`).
+-- In order: `number`, the list of answers and the answer of a number (`answerOf`), which are each other's inverse (`answer-number`, `number-of`,
+-- `number-back`); checks that have an answer's number (`Known`); an answer is done exactly where its number is 0 (`done-number`, `done-zero`), and one
+-- of the list (`number-listed`, `listed`); what a call tells that is refused (`refusal`); a request as the definitions take it (`asked`);
+-- `readRequest`, and a request whose names were read (`request-read`).
 -- Assumes nothing.
 use Prim.Native.Nat.{ℕ, zero, suc, _≤_}
 use mathlib.Core.Path.{_≡_, refl, sym, ap, _∙_}
@@ -20,6 +21,7 @@ use Rattle.names.specs.declared.Locality.{Locality}
 use Rattle.names.specs.declared.KeyRead.the-variants as KeyRead
 use Rattle.names.specs.declared.LocalityRead.the-variants as LocalityRead
 use Rattle.names.specs.Localities.{localities}
+use Rattle.requests.specs.Checks as C
 use Rattle.requests.specs.Answers as A
 use Rattle.requests.specs.declared.Request.{Request}
 use Rattle.requests.specs.declared.RequestRead.{RequestRead}
@@ -98,6 +100,26 @@ number-in k other (a ∷ rest) h =
 pub number-of : (k : ℕ) → isNumber k answers ≡ true → number (answerOf k) ≡ k
 number-of zero h = refl
 number-of (suc k) h = number-in (suc k) Answer.NotUndoable refusals (rw (no-zero k) at h)
+
+-- and where it is not the one that stands in, its number is the one asked for
+number-back-in : (k : ℕ) (other : Answer) (l : List Answer) → (number (numbered k other l) ≡ number other → ⊥) → number (numbered k other l) ≡ k
+number-back-in k other [] h = absurd (h refl)
+number-back-in k other (a ∷ rest) h =
+    cases (eqb k (number a)) (λ t. rw t (sym (eqb-true k (number a) t))) (λ t. rw t (number-back-in k other rest (rw t at h)))
+
+pub number-back : (k c : ℕ) → (c ≡ number Answer.NotUndoable → ⊥) → number (answerOf k) ≡ c → k ≡ c
+number-back zero c h e = e
+number-back (suc k) c h e = sym (number-back-in (suc k) Answer.NotUndoable refusals (λ z. h (sym e ∙ z))) ∙ e
+
+-- the refusal of checks which all have the number of an answer has one too
+abbrev pub Known : List C.Check → Type 0
+Known [] = Unit
+Known (c ∷ cs) = (isNumber (c .number) answers ≡ true) × Known cs
+
+pub refusal-known : (cs : List C.Check) → Known cs → isNumber (C.refusal cs) answers ≡ true
+unfolding C.refusal
+refusal-known [] h = refl
+refusal-known (c ∷ cs) h = cases (c .holds) (λ t. rw t (refusal-known cs (h .1))) (λ t. rw t (h .0))
 
 -- ---- the answer is done exactly where its number is 0
 
