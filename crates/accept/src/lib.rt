@@ -2,8 +2,8 @@
 // clause, in the order of document 01's paragraph; what events made and used is found once, and the last clause, that dependence has no
 // cycle, asks the crate below.
 ghost use mathlib.Core.Path.{_≡_};
-ghost use lib.ListN.{length};
 ghost use Rattle.images.specs.Read.{scriptOf, netOf};
+ghost use Rattle.images.specs.Sizes.{Sized, Scripted};
 ghost use Rattle.accept.specs.Verdict.{verdictOf};
 use agreement::events_agree;
 use cycles::has_no_cycle;
@@ -38,7 +38,7 @@ pub enum Verdict {
 }
 
 pub fn accept(script: &[u8], net: &[u8]) -> Verdict
-    requires { ⌜ (length (now script) ≡ 2064) × (length (now net) ≡ 3600) ⌝ }
+    requires { ⌜ Scripted (now script) × Sized (now net) ⌝ }
     ensures { λ r. ⌜ r ≡ verdictOf (scriptOf (now (script .entry))) (netOf (now (net .entry))) ⌝ }
 {
     if !events_agree(script, net) {

@@ -1,7 +1,7 @@
 // Clauses about the net as a whole: tuples, localities and records that nobody made.
 ghost use mathlib.Core.Path.{_≡_};
-ghost use lib.ListN.{length};
 ghost use Rattle.images.specs.Read.{netOf};
+ghost use Rattle.images.specs.Sizes.{Sized};
 ghost use Rattle.accept.specs.Whole.{tuplesRight, localitiesRight, rootRight, rootsRight};
 use images::Action;
 use images::Slot;
@@ -17,11 +17,11 @@ use rules::is_rooted;
 
 // A consumed tuple was taken; what an in took is no live tuple. What a slot used is looked up only for an in.
 pub fn tuples_right(deeds: [u8; Key::COUNT], net: &[u8], taken: Keys) -> bool
-    requires { ⌜ length (now net) ≡ 3600 ⌝ }
+    requires { ⌜ Sized (now net) ⌝ }
     ensures { λ r. ⌜ r ≡ tuplesRight deeds (netOf (now (net .entry))) taken ⌝ }
 {
     let mut k: u8 = 0;
-    while k < 64 {
+    while k < Key::LIMIT {
         let i = k as usize;
         let x = slot_at(net, i);
         if x.kind == Slot::CONSUMED {
@@ -73,12 +73,12 @@ fn root_right(present: Localities, made: bool, x: Slot) -> bool
 }
 
 pub fn roots_right(net: &[u8], made: Keys) -> bool
-    requires { ⌜ length (now net) ≡ 3600 ⌝ }
+    requires { ⌜ Sized (now net) ⌝ }
     ensures { λ r. ⌜ r ≡ rootsRight (netOf (now (net .entry))) made ⌝ }
 {
     let present = present_in(net);
     let mut k: u8 = 0;
-    while k < 64 {
+    while k < Key::LIMIT {
         let x = slot_at(net, k as usize);
         let by_event = made.has(Key(k));
         if !root_right(present, by_event, x) {

@@ -15,18 +15,23 @@ ghost use Rattle.cycles.specs.Cycles.{edges, members, afterTaking};
 use names::Key;
 use names::Keys;
 
+const LAST: u8 = Key::LIMIT - 1;
+
+// How often dependence is followed before the turns: two looks a key.
+const LOOKS: u8 = 2 * Key::LIMIT;
+
 // The greatest key of a set that has one.
 pub fn highest(set: Keys) -> Key
     requires { ⌜ isEmpty set ≡ false ⌝ }
     ensures { λ r. ⌜ Highest set r ⌝ }
 {
     let above = u64::leading_zeros(set.0) as u8;
-    Key(63 - above)
+    Key(LAST - above)
 }
 
 // What is left once this key of those left is taken, which may be where no key that is left depends on it.
 fn take_last(row: Keys, left: Keys, k: Key) -> Keys
-    requires { ⌜ (k .0 < 64) × (isIn left k ≡ true) ⌝ }
+    requires { ⌜ (k .0 < keyCount) × (isIn left k ≡ true) ⌝ }
     ensures { λ r. ⌜ r ≡ afterTaking row left k ⌝ }
 {
     let others = left.without(k);
@@ -40,7 +45,7 @@ fn take_last(row: Keys, left: Keys, k: Key) -> Keys
 // The key to look at: the one to go back to, or, where that is none or is taken, the greatest of those left.
 fn look_at(left: Keys, back: Key) -> Key
     requires { ⌜ isEmpty left ≡ false ⌝ }
-    ensures { λ r. ⌜ (r .0 < 64) × (isIn left r ≡ true) ⌝ }
+    ensures { λ r. ⌜ (r .0 < keyCount) × (isIn left r ≡ true) ⌝ }
 {
     if !back.is_key() {
         return highest(left);
@@ -58,7 +63,7 @@ fn peels_away(rows: [Keys; Key::COUNT], keys: Keys) -> bool
 {
     let mut left = keys;
     let mut turn: u8 = 0;
-    while turn < 64 {
+    while turn < Key::LIMIT {
         if left.is_empty() {
             return true;
         }
@@ -88,7 +93,7 @@ pub fn has_no_cycle(rows: [Keys; Key::COUNT], keys: Keys) -> bool
     let mut at = Key::NONE;
     let mut from = [Key::NONE; Key::COUNT];
     let mut looks: u8 = 0;
-    while looks < 128 {
+    while looks < LOOKS {
         if left.is_empty() {
             return true;
         }

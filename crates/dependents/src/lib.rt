@@ -42,7 +42,7 @@ fn marks_of(set: Keys) -> Marks
 // Row e holds the keys that depend directly on e. Each key that is reached is followed once, at the cost of one look at its row, so the work
 // is in proportion to the number of keys reached.
 pub fn dependents(rows: [Keys; Key::COUNT], events: Keys, e: Key) -> Marks
-    requires { ⌜ (e .0 < 64) × (isIn events e ≡ true) ⌝ }
+    requires { ⌜ (e .0 < keyCount) × (isIn events e ≡ true) ⌝ }
     ensures { λ r. ⌜ r ≡ dependentMarks rows events e ⌝ }
 {
     let mut followed = Keys::EMPTY;
@@ -65,7 +65,7 @@ pub fn keys_of(m: Marks) -> Keys
 {
     let mut set = Keys::EMPTY;
     let mut k: u8 = 0;
-    while k < 64 {
+    while k < Key::LIMIT {
         if m.of[k as usize] {
             set = set.with(Key(k));
         }

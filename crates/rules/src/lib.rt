@@ -26,7 +26,7 @@ fn is_home(d: Datum) -> bool
     if d.tag != Datum::LOCALITY {
         return true;
     }
-    d.number < 8
+    d.number < Locality::FIRST_MADE as u32
 }
 
 fn all_home(contents: [Datum; Variable::COUNT]) -> bool

@@ -1,8 +1,8 @@
 // What the events of a net made and used, found once: the keys and localities made and the tuples taken as sets, and who depends on whom
 // as a set for each event.
 ghost use mathlib.Core.Path.{_≡_};
-ghost use lib.ListN.{length};
 ghost use Rattle.images.specs.Read.{scriptOf, netOf};
+ghost use Rattle.images.specs.Sizes.{Sized, Scripted};
 ghost use Rattle.traces.specs.Traces.{deedsOf, eventsOf, markedKey, markedKeys, markedPlace, keysMade, localitiesMade, tuplesTaken, usersOf, afterKeyBy, afterReadBy, rowsOf};
 use images::Action;
 use images::Slot;
@@ -29,10 +29,10 @@ pub struct PlaceMarks {
 
 // The kind of each event's node; nil where a slot holds no event, or there is no such node.
 pub fn deeds_of(script: &[u8], net: &[u8]) -> [u8; Key::COUNT]
-    requires { ⌜ (length (now script) ≡ 2064) × (length (now net) ≡ 3600) ⌝ }
+    requires { ⌜ Scripted (now script) × Sized (now net) ⌝ }
     ensures { λ r. ⌜ r ≡ deedsOf (scriptOf (now (script .entry))) (netOf (now (net .entry))) ⌝ }
 {
-    let mut deeds = [0u8; Key::COUNT];
+    let mut deeds = [Action::NIL; Key::COUNT];
     let mut i: usize = 0;
     while i < Key::COUNT {
         let x = slot_at(net, i);
@@ -47,12 +47,12 @@ pub fn deeds_of(script: &[u8], net: &[u8]) -> [u8; Key::COUNT]
 }
 
 pub fn events_of(net: &[u8]) -> Keys
-    requires { ⌜ length (now net) ≡ 3600 ⌝ }
+    requires { ⌜ Sized (now net) ⌝ }
     ensures { λ r. ⌜ r ≡ eventsOf (netOf (now (net .entry))) ⌝ }
 {
     let mut events = Keys::EMPTY;
     let mut k: u8 = 0;
-    while k < 64 {
+    while k < Key::LIMIT {
         let x = slot_at(net, k as usize);
         if x.kind == Slot::PAST {
             events = events.with(Key(k));
@@ -106,7 +106,7 @@ fn mark_place(m: PlaceMarks, l: Locality) -> PlaceMarks
 }
 
 pub fn keys_made(net: &[u8]) -> KeyMarks
-    requires { ⌜ length (now net) ≡ 3600 ⌝ }
+    requires { ⌜ Sized (now net) ⌝ }
     ensures { λ r. ⌜ r ≡ keysMade (netOf (now (net .entry))) ⌝ }
 {
     let mut m = KeyMarks {
@@ -127,7 +127,7 @@ pub fn keys_made(net: &[u8]) -> KeyMarks
 }
 
 pub fn localities_made(deeds: [u8; Key::COUNT], net: &[u8]) -> PlaceMarks
-    requires { ⌜ length (now net) ≡ 3600 ⌝ }
+    requires { ⌜ Sized (now net) ⌝ }
     ensures { λ r. ⌜ r ≡ localitiesMade deeds (netOf (now (net .entry))) ⌝ }
 {
     let mut m = PlaceMarks {
@@ -147,7 +147,7 @@ pub fn localities_made(deeds: [u8; Key::COUNT], net: &[u8]) -> PlaceMarks
 }
 
 pub fn tuples_taken(deeds: [u8; Key::COUNT], net: &[u8]) -> KeyMarks
-    requires { ⌜ length (now net) ≡ 3600 ⌝ }
+    requires { ⌜ Sized (now net) ⌝ }
     ensures { λ r. ⌜ r ≡ tuplesTaken deeds (netOf (now (net .entry))) ⌝ }
 {
     let mut m = KeyMarks {
@@ -170,12 +170,12 @@ pub fn tuples_taken(deeds: [u8; Key::COUNT], net: &[u8]) -> KeyMarks
 
 // For each tuple, by its key, the events of one kind that used it.
 fn users_of(deed: u8, deeds: [u8; Key::COUNT], net: &[u8]) -> [Keys; Key::COUNT]
-    requires { ⌜ length (now net) ≡ 3600 ⌝ }
+    requires { ⌜ Sized (now net) ⌝ }
     ensures { λ r. ⌜ r ≡ usersOf deed deeds (netOf (now (net .entry))) ⌝ }
 {
     let mut users = [Keys::EMPTY; Key::COUNT];
     let mut k: u8 = 0;
-    while k < 64 {
+    while k < Key::LIMIT {
         let i = k as usize;
         if deeds[i] == deed {
             let x = slot_at(net, i);
@@ -220,7 +220,7 @@ fn after_read(deed: u8, takes: Keys, tuple: Key) -> Keys
 
 // For each event the events that depend on it directly; for a slot that holds no event none.
 pub fn rows_of(deeds: [u8; Key::COUNT], net: &[u8], events: Keys) -> [Keys; Key::COUNT]
-    requires { ⌜ length (now net) ≡ 3600 ⌝ }
+    requires { ⌜ Sized (now net) ⌝ }
     ensures { λ r. ⌜ r ≡ rowsOf deeds (netOf (now (net .entry))) events ⌝ }
 {
     let takers = users_of(Action::IN, deeds, net);
