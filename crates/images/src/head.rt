@@ -4,6 +4,15 @@ ghost use Prim.Native.Nat.{_≤_};
 ghost use lib.ListN.{length};
 ghost use Rattle.images.specs.Head.{headFormed, headBytes, restZero};
 
+// A head's bytes, and where its words stand: the version, a word of the image's own, and the last.
+pub const SIZE: usize = 16;
+
+const VERSION: usize = 4;
+
+pub const OWN: usize = 8;
+
+pub const LAST: usize = 12;
+
 // The mark is "RT" and a letter; the version is 1.
 pub fn head_formed(b: &[u8], letter: u8) -> bool
     requires { ⌜ 16 ≤ length (now b) ⌝ }
@@ -12,10 +21,10 @@ pub fn head_formed(b: &[u8], letter: u8) -> bool
     if laws::word_at(b, 0) != laws::word_of(b'R', b'T', letter, 0) {
         return false;
     }
-    if laws::word_at(b, 4) != 1 {
+    if laws::word_at(b, VERSION) != 1 {
         return false;
     }
-    laws::word_at(b, 12) == 0
+    laws::word_at(b, LAST) == 0
 }
 
 // The 16 bytes of a head.
@@ -23,10 +32,10 @@ pub fn write_head(letter: u8, w: u32, p: &mut [u8])
     requires { ⌜ length (now p) ≡ 16 ⌝ }
     ensures { λ _. ⌜ now (p .exit) ≡ headBytes letter w ⌝ }
 {
-    laws::write_four(b'R', b'T', letter, 0, &mut p[0..4]);
-    laws::write_four(1, 0, 0, 0, &mut p[4..8]);
-    laws::write_word(w, &mut p[8..12]);
-    laws::write_four(0, 0, 0, 0, &mut p[12..16]);
+    laws::write_four(b'R', b'T', letter, 0, &mut p[0..VERSION]);
+    laws::write_four(1, 0, 0, 0, &mut p[VERSION..OWN]);
+    laws::write_word(w, &mut p[OWN..LAST]);
+    laws::write_four(0, 0, 0, 0, &mut p[LAST..SIZE]);
 }
 
 // Byte 7 and the last four bytes of a part, which no kind of part uses.

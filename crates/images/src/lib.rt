@@ -27,6 +27,8 @@ pub struct Field {
 
 impl Field {
     pub const COUNT: usize = 4;
+    // The count as a byte.
+    pub const LIMIT: u8 = 4;
 
     pub const VALUE: u8 = 1;
 

@@ -16,25 +16,57 @@ ghost use Rattle.images.specs.Changed.{variableSet, variablePut, referen
 ghost use Rattle.images.specs.InPlace.{slotPut, presentPut};
 ghost use Rattle.images.specs.Read.{datumOf, slotOf, slotFormed, slotsFormed, netOf, netFormed, badNet, readNet};
 use super::Datum;
+use super::Field;
 use super::Form;
 use super::Net;
 use super::NetRead;
 use super::Slot;
 use super::Written;
+use super::head;
 use super::head::head_formed;
 use super::head::rest_is_zero;
 use super::head::write_head;
 use names::Key;
+use names::KeyRead;
 use names::Localities;
 use names::Locality;
+use names::LocalityRead;
 use names::NONE;
 use names::Node;
+use names::NodeRead;
 use names::Reference;
 use names::Variable;
 
-pub const SIZE: usize = 3600;
+pub const SIZE: usize = head::SIZE + SLOT_SIZE * Key::COUNT;
 
 pub const SLOT_SIZE: usize = 56;
+
+// Where the parts of a slot stand: its kind, its locality, its node or count; the keys that it made, the tuple used and the locality made; the
+// tags and the numbers of its contents; its references; and four bytes that no slot uses.
+const KIND: usize = 0;
+
+const HOME: usize = 1;
+
+const NODE: usize = 2;
+
+const FIRST: usize = 3;
+
+const SECOND: usize = 4;
+
+const USED: usize = 5;
+
+const PLACE: usize = 6;
+
+const TAGS: usize = 8;
+
+const NUMBERS: usize = 16;
+
+const REFS: usize = 48;
+
+const REST: usize = 52;
+
+// The words before those that no slot uses.
+const WORDS: usize = REST / 4;
 
 // ---- a slot taken apart
 
@@ -42,9 +74,9 @@ fn datum_of(p: &[u8], j: usize) -> Datum
     requires { ⌜ SlotSized (now p) × (j < 8) ⌝ }
     ensures { λ r. ⌜ r ≡ datumOf (now (p .entry)) j ⌝ }
 {
-    let number = laws::word_at(p, 16 + 4 * j);
+    let number = laws::word_at(p, NUMBERS + 4 * j);
     Datum {
-        tag: p[8 + j],
+        tag: p[TAGS + j],
         number,
     }
 }
@@ -68,7 +100,12 @@ fn refs_of(p: &[u8]) -> [Key; Reference::COUNT]
     requires { ⌜ SlotSized (now p) ⌝ }
     ensures { λ r. ⌜ r ≡ tab 4 (λ j. key (byte (now (p .entry)) (48 + j))) ⌝ }
 {
-    [Key(p[48]), Key(p[49]), Key(p[50]), Key(p[51])]
+    [
+        Key(p[REFS]),
+        Key(p[REFS + 1]),
+        Key(p[REFS + 2]),
+        Key(p[REFS + 3]),
+    ]
 }
 
 // Byte 2 is a process's node, and a tuple's field count.
@@ -96,17 +133,17 @@ pub fn slot_of(p: &[u8]) -> Slot
 {
     let contents = contents_of(p);
     let refs = refs_of(p);
-    let node = node_of(p[0], p[2]);
-    let count = count_of(p[0], p[2]);
+    let node = node_of(p[KIND], p[NODE]);
+    let count = count_of(p[KIND], p[NODE]);
     Slot {
-        kind: p[0],
-        locality: Locality(p[1]),
+        kind: p[KIND],
+        locality: Locality(p[HOME]),
         node,
         count,
-        first: Key(p[3]),
-        second: Key(p[4]),
-        used: Key(p[5]),
-        place: Locality(p[6]),
+        first: Key(p[FIRST]),
+        second: Key(p[SECOND]),
+        used: Key(p[USED]),
+        place: Locality(p[PLACE]),
         contents,
         refs,
     }
@@ -198,7 +235,7 @@ fn data_fill(count: u8, p: &[u8]) -> bool
     ensures { λ r. ⌜ r ≡ dataFill count (slotOf (now (p .entry)) .contents) ⌝ }
 {
     let mut j: u8 = 0;
-    while j < 8 {
+    while j < Variable::LIMIT {
         let d = datum_of(p, j as usize);
         if !field_or_blank(count, j, d) {
             return false;
@@ -213,16 +250,16 @@ fn makes_only(b: u8, p: &[u8]) -> bool
     requires { ⌜ SlotSized (now p) ⌝ }
     ensures { λ r. ⌜ r ≡ madeAre b (slotOf (now (p .entry))) ⌝ }
 {
-    if p[3] != b {
+    if p[FIRST] != b {
         return false;
     }
-    if p[4] != b {
+    if p[SECOND] != b {
         return false;
     }
-    if p[5] != b {
+    if p[USED] != b {
         return false;
     }
-    p[6] == b
+    p[PLACE] == b
 }
 
 // Every reference of the slot is this byte.
@@ -230,56 +267,54 @@ fn refers_only(b: u8, p: &[u8]) -> bool
     requires { ⌜ SlotSized (now p) ⌝ }
     ensures { λ r. ⌜ r ≡ refsAre b (slotOf (now (p .entry)) .refs) ⌝ }
 {
-    if p[48] != b {
+    if p[REFS] != b {
         return false;
     }
-    if p[49] != b {
+    if p[REFS + 1] != b {
         return false;
     }
-    if p[50] != b {
+    if p[REFS + 2] != b {
         return false;
     }
-    p[51] == b
+    p[REFS + 3] == b
 }
 
 fn made_in_range(p: &[u8]) -> bool
     requires { ⌜ SlotSized (now p) ⌝ }
     ensures { λ r. ⌜ r ≡ madeInRange (slotOf (now (p .entry))) ⌝ }
 {
-    let first = Key(p[3]);
-    if !first.is_key_or_none() {
+    let KeyRead::Key(_) = Key::or_none(p[FIRST]) else {
         return false;
-    }
-    let second = Key(p[4]);
-    if !second.is_key_or_none() {
+    };
+    let KeyRead::Key(_) = Key::or_none(p[SECOND]) else {
         return false;
-    }
-    let used = Key(p[5]);
-    if !used.is_key_or_none() {
+    };
+    let KeyRead::Key(_) = Key::or_none(p[USED]) else {
         return false;
-    }
-    let place = Locality(p[6]);
-    place.is_locality_or_none()
+    };
+    let LocalityRead::Locality(_) = Locality::or_none(p[PLACE]) else {
+        return false;
+    };
+    true
 }
 
 fn refs_in_range(p: &[u8]) -> bool
     requires { ⌜ SlotSized (now p) ⌝ }
     ensures { λ r. ⌜ r ≡ refsInRange (slotOf (now (p .entry)) .refs) ⌝ }
 {
-    let one = Key(p[48]);
-    if !one.is_key_or_none() {
+    let KeyRead::Key(_) = Key::or_none(p[REFS]) else {
         return false;
-    }
-    let two = Key(p[49]);
-    if !two.is_key_or_none() {
+    };
+    let KeyRead::Key(_) = Key::or_none(p[REFS + 1]) else {
         return false;
-    }
-    let three = Key(p[50]);
-    if !three.is_key_or_none() {
+    };
+    let KeyRead::Key(_) = Key::or_none(p[REFS + 2]) else {
         return false;
-    }
-    let four = Key(p[51]);
-    four.is_key_or_none()
+    };
+    let KeyRead::Key(_) = Key::or_none(p[REFS + 3]) else {
+        return false;
+    };
+    true
 }
 
 // A free slot is 0 throughout; of its fourteen words the last is among the bytes that no slot uses.
@@ -288,7 +323,7 @@ fn free_in_range(p: &[u8]) -> bool
     ensures { λ r. ⌜ r ≡ freeInRange (slotOf (now (p .entry))) ⌝ }
 {
     let mut j: usize = 0;
-    while j < 13 {
+    while j < WORDS {
         if laws::word_at(p, 4 * j) != 0 {
             return false;
         }
@@ -301,14 +336,12 @@ fn process_in_range(p: &[u8]) -> bool
     requires { ⌜ SlotSized (now p) × (byte (now p) 0 < 3) ⌝ }
     ensures { λ r. ⌜ r ≡ processInRange (slotOf (now (p .entry))) ⌝ }
 {
-    let locality = Locality(p[1]);
-    if !locality.is_locality() {
+    let LocalityRead::Locality(_) = Locality::of_byte(p[HOME]) else {
         return false;
-    }
-    let node = Node(p[2]);
-    if !node.is_node() {
+    };
+    let NodeRead::Node(_) = Node::of_byte(p[NODE]) else {
         return false;
-    }
+    };
     if !refs_in_range(p) {
         return false;
     }
@@ -319,15 +352,14 @@ fn tuple_in_range(p: &[u8]) -> bool
     requires { ⌜ SlotSized (now p) × (3 ≤ byte (now p) 0) ⌝ }
     ensures { λ r. ⌜ r ≡ tupleInRange (slotOf (now (p .entry))) ⌝ }
 {
-    let locality = Locality(p[1]);
-    if !locality.is_locality() {
+    let LocalityRead::Locality(_) = Locality::of_byte(p[HOME]) else {
         return false;
-    }
-    let count = p[2];
+    };
+    let count = p[NODE];
     if count < 1 {
         return false;
     }
-    if 4 < count {
+    if Field::LIMIT < count {
         return false;
     }
     if !makes_only(NONE, p) {
@@ -344,7 +376,7 @@ fn slot_in_range(p: &[u8]) -> bool
     requires { ⌜ SlotSized (now p) × (restZero slotSize (now p) ≡ true) ⌝ }
     ensures { λ r. ⌜ r ≡ slotInRange (slotOf (now (p .entry))) ⌝ }
 {
-    let kind = p[0];
+    let kind = p[KIND];
     if kind == Slot::FREE {
         return free_in_range(p);
     }
@@ -384,7 +416,7 @@ pub fn slot_at(b: &[u8], i: usize) -> Slot
     requires { ⌜ Sized (now b) × (i < keyCount) ⌝ }
     ensures { λ r. ⌜ r ≡ slotAt (netOf (now (b .entry))) i ⌝ }
 {
-    let at = 16 + SLOT_SIZE * i;
+    let at = head::SIZE + SLOT_SIZE * i;
     slot_of(&b[at..at + SLOT_SIZE])
 }
 
@@ -446,7 +478,7 @@ pub fn present_in(b: &[u8]) -> Localities
     requires { ⌜ Sized (now b) ⌝ }
     ensures { λ r. ⌜ r ≡ netOf (now (b .entry)) .present ⌝ }
 {
-    Localities(laws::word_at(b, 8))
+    Localities(laws::word_at(b, head::OWN))
 }
 
 // The slot is written at its key; where there is no such key, nothing is.
@@ -457,7 +489,7 @@ pub fn put_slot(k: Key, x: Slot, d: &mut [u8])
     if !k.is_key() {
         return;
     }
-    let at = 16 + SLOT_SIZE * k.0 as usize;
+    let at = head::SIZE + SLOT_SIZE * k.0 as usize;
     write_slot(x, &mut d[at..at + SLOT_SIZE]);
 }
 
@@ -470,7 +502,7 @@ pub fn put_keeping(k: Key, x: Slot, d: &mut [u8])
     if !k.is_key() {
         return;
     }
-    let at = 16 + SLOT_SIZE * k.0 as usize;
+    let at = head::SIZE + SLOT_SIZE * k.0 as usize;
     write_around(x, &mut d[at..at + SLOT_SIZE]);
 }
 
@@ -521,7 +553,7 @@ pub fn put_present(p: Localities, d: &mut [u8])
     requires { ⌜ Sized (now d) ⌝ }
     ensures { λ _. ⌜ now (d .exit) ≡ presentPut p (now (d .entry)) ⌝ }
 {
-    laws::write_word(p.0, &mut d[8..12]);
+    laws::write_word(p.0, &mut d[head::OWN..head::LAST]);
 }
 
 // ---- the whole image
@@ -546,7 +578,7 @@ fn slots_formed(b: &[u8]) -> bool
 {
     let mut i: usize = 0;
     while i < Key::COUNT {
-        let at = 16 + SLOT_SIZE * i;
+        let at = head::SIZE + SLOT_SIZE * i;
         if !slot_formed(&b[at..at + SLOT_SIZE]) {
             return false;
         }
@@ -665,10 +697,10 @@ fn write_slot(s: Slot, p: &mut [u8])
 {
     let contents = s.contents;
     let refs = s.refs;
-    write_first(s, &mut p[0..8]);
-    write_tags(contents, &mut p[8..16]);
-    write_numbers(contents, &mut p[16..48]);
-    write_refs(refs, &mut p[48..56]);
+    write_first(s, &mut p[0..TAGS]);
+    write_tags(contents, &mut p[TAGS..NUMBERS]);
+    write_numbers(contents, &mut p[NUMBERS..REFS]);
+    write_refs(refs, &mut p[REFS..SLOT_SIZE]);
 }
 
 // A slot whose contents and references stand there already: only what is around them is written.
@@ -677,19 +709,19 @@ fn write_around(s: Slot, p: &mut [u8])
     requires { ⌜ (s .contents ≡ slotOf (now p) .contents) × (s .refs ≡ slotOf (now p) .refs) ⌝ }
     ensures { λ _. ⌜ now (p .exit) ≡ slotBytes s ⌝ }
 {
-    write_first(s, &mut p[0..8]);
-    laws::write_four(0, 0, 0, 0, &mut p[52..56]);
+    write_first(s, &mut p[0..TAGS]);
+    laws::write_four(0, 0, 0, 0, &mut p[REST..SLOT_SIZE]);
 }
 
 fn write_image(n: Net, d: &mut [u8])
     requires { ⌜ Sized (now d) ⌝ }
     ensures { λ _. ⌜ now (d .exit) ≡ netBytes n ⌝ }
 {
-    write_head(b'N', n.present.0, &mut d[0..16]);
+    write_head(b'N', n.present.0, &mut d[0..head::SIZE]);
     let mut i: usize = 0;
     while i < Key::COUNT {
         let s = n.slots[i];
-        let at = 16 + SLOT_SIZE * i;
+        let at = head::SIZE + SLOT_SIZE * i;
         write_slot(s, &mut d[at..at + SLOT_SIZE]);
         i += 1;
     }

@@ -14,15 +14,38 @@ use super::Form;
 use super::Row;
 use super::Script;
 use super::ScriptRead;
+use super::head;
 use super::head::head_formed;
 use super::head::rest_is_zero;
 use names::NONE;
 use names::Node;
 use names::Reference;
 
-pub const SIZE: usize = 2064;
+pub const SIZE: usize = head::SIZE + NODE_SIZE * Node::COUNT;
 
 pub const NODE_SIZE: usize = 32;
+
+// Where the parts of a node stand: its kind, its next and its other node, its target, its reference, how many fields it has, and their tags and
+// numbers.
+const KIND: usize = 0;
+
+const NEXT: usize = 1;
+
+const OTHER: usize = 2;
+
+const TARGET_TAG: usize = 3;
+
+const TARGET: usize = 4;
+
+const REF: usize = 5;
+
+const COUNT: usize = 6;
+
+const TAGS: usize = 8;
+
+const NUMBERS: usize = 12;
+
+const WORDS: usize = NODE_SIZE / 4;
 
 // Document 01's table: which places each kind uses.
 const ROWS: [Row; 8] = [
@@ -112,9 +135,9 @@ fn field_of(p: &[u8], j: usize) -> Field
     requires { ⌜ NodeSized (now p) × (j < 4) ⌝ }
     ensures { λ r. ⌜ r ≡ fieldOf (now (p .entry)) j ⌝ }
 {
-    let number = laws::word_at(p, 12 + 4 * j);
+    let number = laws::word_at(p, NUMBERS + 4 * j);
     Field {
-        tag: p[8 + j],
+        tag: p[TAGS + j],
         number,
     }
 }
@@ -127,28 +150,31 @@ pub fn action_of(p: &[u8]) -> Action
     let f1 = field_of(p, 1);
     let f2 = field_of(p, 2);
     let f3 = field_of(p, 3);
-    let number = wide(p[4]);
-    let target = Field { tag: p[3], number };
+    let number = wide(p[TARGET]);
+    let target = Field {
+        tag: p[TARGET_TAG],
+        number,
+    };
     Action {
-        kind: p[0],
-        next: Node(p[1]),
-        other: Node(p[2]),
+        kind: p[KIND],
+        next: Node(p[NEXT]),
+        other: Node(p[OTHER]),
         target,
-        reference: Reference(p[5]),
-        count: p[6],
+        reference: Reference(p[REF]),
+        count: p[COUNT],
         fields: [f0, f1, f2, f3],
     }
 }
 
 // ---- a node held to its row
 
-fn node_in_place(used: bool, n: u8) -> bool
-    ensures { λ r. ⌜ r ≡ nodeInPlace used n ⌝ }
+fn node_in_place(used: bool, n: Node) -> bool
+    ensures { λ r. ⌜ r ≡ nodeInPlace used (n .0) ⌝ }
 {
     if used {
-        return n < 64;
+        return n.is_node();
     }
-    n == 0
+    n.0 == 0
 }
 
 fn target_in_place(used: u8, f: Field) -> bool
@@ -175,7 +201,7 @@ fn reference_in_place(used: u8, r: Reference) -> bool
     if used == Row::OPTIONAL {
         return r.is_reference_or_none();
     }
-    r.0 < 4
+    r.0 < Reference::LIMIT
 }
 
 fn field_in_range(top: u8, f: Field) -> bool
@@ -205,7 +231,7 @@ fn count_in_place(top: u8, count: u8) -> bool
     if top == 0 {
         return count == 0;
     }
-    1 <= count && count <= 4
+    1 <= count && count <= Field::LIMIT
 }
 
 fn field_in_place(top: u8, count: u8, j: u8, f: Field) -> bool
@@ -221,7 +247,7 @@ fn fields_in_place(top: u8, count: u8, fields: [Field; Field::COUNT]) -> bool
     ensures { λ r. ⌜ r ≡ fieldsInPlace top count fields ⌝ }
 {
     let mut j: u8 = 0;
-    while j < 4 {
+    while j < Field::LIMIT {
         let f = fields[j as usize];
         if !field_in_place(top, count, j, f) {
             return false;
@@ -273,10 +299,10 @@ fn formals_distinct(fields: [Field; Field::COUNT]) -> bool
 fn places_in_row(r: Row, a: Action) -> bool
     ensures { λ t. ⌜ t ≡ placesInRow r a ⌝ }
 {
-    if !node_in_place(r.next, a.next.0) {
+    if !node_in_place(r.next, a.next) {
         return false;
     }
-    if !node_in_place(r.other, a.other.0) {
+    if !node_in_place(r.other, a.other) {
         return false;
     }
     let target = a.target;
@@ -327,7 +353,7 @@ fn is_nil(p: &[u8]) -> bool
         return false;
     }
     let mut j: usize = 2;
-    while j < 8 {
+    while j < WORDS {
         if laws::word_at(p, 4 * j) != 0 {
             return false;
         }
@@ -358,7 +384,7 @@ fn action_at(b: &[u8], i: usize) -> Action
     requires { ⌜ Scripted (now b) × (i < nodeCount) ⌝ }
     ensures { λ r. ⌜ r ≡ actionOf (partAt nodeSize (now (b .entry)) i) ⌝ }
 {
-    let at = 16 + NODE_SIZE * i;
+    let at = head::SIZE + NODE_SIZE * i;
     action_of(&b[at..at + NODE_SIZE])
 }
 
@@ -408,7 +434,7 @@ fn nodes_formed(b: &[u8]) -> bool
 {
     let mut i: usize = 0;
     while i < Node::COUNT {
-        let at = 16 + NODE_SIZE * i;
+        let at = head::SIZE + NODE_SIZE * i;
         if !action_formed(&b[at..at + NODE_SIZE]) {
             return false;
         }
@@ -427,7 +453,7 @@ pub fn script_formed(b: &[u8]) -> bool
     if !head_formed(b, b'S') {
         return false;
     }
-    if laws::word_at(b, 8) != 0 {
+    if laws::word_at(b, head::OWN) != 0 {
         return false;
     }
     nodes_formed(b)
