@@ -16,6 +16,13 @@ use Rattle.images.specs.declared.Action.{Action}
 use Rattle.images.specs.declared.Script.{Script}
 use Rattle.images.specs.declared.Row.{Row}
 
+-- ---- how many kinds of node there are, and how many fields a node may have
+abbrev pub kindCount : ℕ
+kindCount = 8
+
+abbrev pub fieldCount : ℕ
+fieldCount = 4
+
 -- ---- what stands where nothing does: zeros, and empty arrays
 abbrev pub field0 : Field
 field0 = record { tag = 0; number = 0 }
@@ -40,7 +47,7 @@ firstBytes a =
 unfoldable pub actionBytes : Action → List ℕ
 actionBytes a =
     firstBytes a ++
-    (pairBytes 4 (λ j. fieldAt a j .tag) (λ j. fieldAt a j .number) ++ (0 ∷ 0 ∷ 0 ∷ 0 ∷ []))
+    (pairBytes fieldCount (λ j. fieldAt a j .tag) (λ j. fieldAt a j .number) ++ (0 ∷ 0 ∷ 0 ∷ 0 ∷ []))
 
 -- "Bytes 0..2 'RTS', 4..5 version 1, then 64 nodes of 32 bytes from 16."
 unfoldable pub scriptBytes : Script → List ℕ
@@ -115,13 +122,13 @@ isBlank f = eqb (f .tag) 0 && eqb (f .number) 0
 
 -- "1..4 fields"; "Fields past the count are 0."
 unfoldable pub countInPlace : ℕ → ℕ → Bool
-countInPlace top c = pick (eqb top 0) (eqb c 0) (leb 1 c && leb c 4)
+countInPlace top c = pick (eqb top 0) (eqb c 0) (leb 1 c && leb c fieldCount)
 
 unfoldable pub fieldInPlace : ℕ → ℕ → ℕ → Field → Bool
 fieldInPlace top count j f = pick (ltb j count) (fieldInRange top f) (isBlank f)
 
 unfoldable pub fieldsInPlace : ℕ → ℕ → List Field → Bool
-fieldsInPlace top count fs = all 4 (λ j. fieldInPlace top count j (getD fs j field0))
+fieldsInPlace top count fs = all fieldCount (λ j. fieldInPlace top count j (getD fs j field0))
 
 -- "Formals of one template name distinct variables."
 unfoldable pub sameFormal : Field → Field → Bool
@@ -131,7 +138,7 @@ unfoldable pub freshFormal : List Field → ℕ → Bool
 freshFormal fs j = all j (λ i. not (sameFormal (getD fs i field0) (getD fs j field0)))
 
 unfoldable pub formalsDistinct : List Field → Bool
-formalsDistinct fs = all 4 (freshFormal fs)
+formalsDistinct fs = all fieldCount (freshFormal fs)
 
 -- a node whose places are as its row says
 unfoldable pub placesInRow : Row → Action → Bool
@@ -145,7 +152,7 @@ fieldsInRow r a =
     countInPlace (r .fields) (a .count) && (fieldsInPlace (r .fields) (a .count) (a .fields) && formalsDistinct (a .fields))
 
 unfoldable pub actionInRange : Action → Bool
-actionInRange a = ltb (a .kind) 8 && (placesInRow (rowOf (a .kind)) a && fieldsInRow (rowOf (a .kind)) a)
+actionInRange a = ltb (a .kind) kindCount && (placesInRow (rowOf (a .kind)) a && fieldsInRow (rowOf (a .kind)) a)
 
 unfoldable pub scriptInRange : Script → Bool
 scriptInRange s = all nodeCount (λ i. actionInRange (actionAt s i))

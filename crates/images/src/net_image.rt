@@ -2,13 +2,13 @@
 ghost use mathlib.Core.Path.{_≡_};
 ghost use mathlib.Core.Bool.{true, _&&_};
 ghost use mathlib.Core.List.{[], _∷_, _++_};
-ghost use Prim.Native.Nat.{_+_, _<_, _≤_};
+ghost use Prim.Native.Nat.{_+_, _*_, _<_, _≤_};
 ghost use lib.ListN.{length, getD};
 ghost use Rattle.laws.specs.Choice.{pick};
 ghost use Rattle.laws.specs.Lists.{tab};
 ghost use Rattle.laws.specs.Parts.{flat};
 ghost use Rattle.laws.specs.Words.{word};
-ghost use Rattle.names.specs.Names.{referenceCount, variableCount, keyCount, key, node};
+ghost use Rattle.names.specs.Names.{keyCount, variableCount, referenceCount, key, node};
 ghost use Rattle.images.specs.Head.{byte, restZero};
 ghost use Rattle.images.specs.Sizes.{slotSize, SlotSized, Sized};
 ghost use Rattle.images.specs.Net.{datum0, isTuple, nodeOrCount, firstBytes, slotBytes, netBytes, netWritten, writtenInto, isUnset, isSet, isDatum, variablesInRange, fieldOrBlank, dataFill, madeAre, refsAre, madeInRange, refsInRange, freeInRange, processInRange, tupleInRange, slotInRange, freeSlot, indexOf, slotWith, slotAt, isFree};
@@ -71,7 +71,7 @@ const WORDS: usize = REST / 4;
 // ---- a slot taken apart
 
 fn datum_of(p: &[u8], j: usize) -> Datum
-    requires { ⌜ SlotSized (now p) × (j < 8) ⌝ }
+    requires { ⌜ SlotSized (now p) × (j < variableCount) ⌝ }
     ensures { λ r. ⌜ r ≡ datumOf (now (p .entry)) j ⌝ }
 {
     let number = laws::word_at(p, NUMBERS + 4 * j);
@@ -83,7 +83,7 @@ fn datum_of(p: &[u8], j: usize) -> Datum
 
 fn contents_of(p: &[u8]) -> [Datum; Variable::COUNT]
     requires { ⌜ SlotSized (now p) ⌝ }
-    ensures { λ r. ⌜ r ≡ tab 8 (datumOf (now (p .entry))) ⌝ }
+    ensures { λ r. ⌜ r ≡ tab variableCount (datumOf (now (p .entry))) ⌝ }
 {
     let d0 = datum_of(p, 0);
     let d1 = datum_of(p, 1);
@@ -98,7 +98,7 @@ fn contents_of(p: &[u8]) -> [Datum; Variable::COUNT]
 
 fn refs_of(p: &[u8]) -> [Key; Reference::COUNT]
     requires { ⌜ SlotSized (now p) ⌝ }
-    ensures { λ r. ⌜ r ≡ tab 4 (λ j. key (byte (now (p .entry)) (48 + j))) ⌝ }
+    ensures { λ r. ⌜ r ≡ tab referenceCount (λ j. key (byte (now (p .entry)) (48 + j))) ⌝ }
 {
     [
         Key(p[REFS]),
@@ -652,7 +652,7 @@ fn write_first(s: Slot, p: &mut [u8])
 
 fn write_tags(contents: [Datum; Variable::COUNT], p: &mut [u8])
     requires { ⌜ length (now p) ≡ 8 ⌝ }
-    ensures { λ _. ⌜ now (p .exit) ≡ tab 8 (λ j. getD contents j datum0 .tag) ⌝ }
+    ensures { λ _. ⌜ now (p .exit) ≡ tab variableCount (λ j. getD contents j datum0 .tag) ⌝ }
 {
     laws::write_four(
         contents[0].tag,
@@ -671,8 +671,8 @@ fn write_tags(contents: [Datum; Variable::COUNT], p: &mut [u8])
 }
 
 fn write_numbers(contents: [Datum; Variable::COUNT], p: &mut [u8])
-    requires { ⌜ length (now p) ≡ 32 ⌝ }
-    ensures { λ _. ⌜ now (p .exit) ≡ flat (tab 8 (λ j. word (getD contents j datum0 .number))) ⌝ }
+    requires { ⌜ length (now p) ≡ 4 * variableCount ⌝ }
+    ensures { λ _. ⌜ now (p .exit) ≡ flat (tab variableCount (λ j. word (getD contents j datum0 .number))) ⌝ }
 {
     let mut j: usize = 0;
     while j < Variable::COUNT {
@@ -685,7 +685,7 @@ fn write_numbers(contents: [Datum; Variable::COUNT], p: &mut [u8])
 // The references, and the four bytes after them that no slot uses.
 fn write_refs(refs: [Key; Reference::COUNT], p: &mut [u8])
     requires { ⌜ length (now p) ≡ 8 ⌝ }
-    ensures { λ _. ⌜ now (p .exit) ≡ tab 4 (λ j. getD refs j (key 0) .0) ++ (0 ∷ 0 ∷ 0 ∷ 0 ∷ []) ⌝ }
+    ensures { λ _. ⌜ now (p .exit) ≡ tab referenceCount (λ j. getD refs j (key 0) .0) ++ (0 ∷ 0 ∷ 0 ∷ 0 ∷ []) ⌝ }
 {
     laws::write_four(refs[0].0, refs[1].0, refs[2].0, refs[3].0, &mut p[0..4]);
     laws::write_four(0, 0, 0, 0, &mut p[4..8]);

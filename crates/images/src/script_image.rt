@@ -6,7 +6,7 @@ ghost use mathlib.Core.Bool.{true, _&&_};
 ghost use Rattle.names.specs.Names.{nodeCount};
 ghost use Rattle.images.specs.Head.{partAt};
 ghost use Rattle.images.specs.Sizes.{nodeSize, NodeSized, Scripted};
-ghost use Rattle.images.specs.Script.{rowOf, nodeInPlace, targetInPlace, referenceInPlace, fieldInRange, isBlank, countInPlace, fieldInPlace, fieldsInPlace, sameFormal, freshFormal, formalsDistinct, placesInRow, fieldsInRow, actionInRange};
+ghost use Rattle.images.specs.Script.{kindCount, fieldCount, rowOf, nodeInPlace, targetInPlace, referenceInPlace, fieldInRange, isBlank, countInPlace, fieldInPlace, fieldsInPlace, sameFormal, freshFormal, formalsDistinct, placesInRow, fieldsInRow, actionInRange};
 ghost use Rattle.images.specs.Read.{fieldOf, actionOf, actionFormed, nodesFormed, scriptOf, scriptFormed, nilAction, nodeWith, badScript, readScript};
 use super::Action;
 use super::Field;
@@ -48,7 +48,7 @@ const NUMBERS: usize = 12;
 const WORDS: usize = NODE_SIZE / 4;
 
 // Document 01's table: which places each kind uses.
-const ROWS: [Row; 8] = [
+const ROWS: [Row; Action::KINDS as usize] = [
     // nil
     Row {
         next: false,
@@ -116,7 +116,7 @@ const ROWS: [Row; 8] = [
 ];
 
 fn row_of(kind: u8) -> Row
-    requires { ⌜ kind < 8 ⌝ }
+    requires { ⌜ kind < kindCount ⌝ }
     ensures { λ r. ⌜ r ≡ rowOf kind ⌝ }
 {
     let k = kind as usize;
@@ -132,7 +132,7 @@ fn wide(b: u8) -> u32
 }
 
 fn field_of(p: &[u8], j: usize) -> Field
-    requires { ⌜ NodeSized (now p) × (j < 4) ⌝ }
+    requires { ⌜ NodeSized (now p) × (j < fieldCount) ⌝ }
     ensures { λ r. ⌜ r ≡ fieldOf (now (p .entry)) j ⌝ }
 {
     let number = laws::word_at(p, NUMBERS + 4 * j);
@@ -268,7 +268,7 @@ fn same_formal(f: Field, g: Field) -> bool
 
 // No formal before this one names its variable.
 fn fresh_formal(fields: [Field; Field::COUNT], j: usize) -> bool
-    requires { ⌜ j < 4 ⌝ }
+    requires { ⌜ j < fieldCount ⌝ }
     ensures { λ r. ⌜ r ≡ freshFormal fields j ⌝ }
 {
     let g = fields[j];
