@@ -10,7 +10,7 @@ ghost use Rattle.laws.specs.Parts.{flat};
 ghost use Rattle.laws.specs.Words.{word};
 ghost use Rattle.names.specs.Names.{keyCount, variableCount, referenceCount, key, node};
 ghost use Rattle.images.specs.Head.{byte, restZero};
-ghost use Rattle.images.specs.Sizes.{slotSize, SlotSized, Sized};
+ghost use Rattle.images.specs.Sizes.{headSize, slotSize, SlotSized, Sized};
 ghost use Rattle.images.specs.Net.{datum0, isTuple, nodeOrCount, firstBytes, slotBytes, netBytes, netWritten, writtenInto, isUnset, isSet, isDatum, variablesInRange, fieldOrBlank, dataFill, madeAre, refsAre, madeInRange, refsInRange, freeInRange, processInRange, tupleInRange, slotInRange, freeSlot, indexOf, slotWith, slotAt, isFree};
 ghost use Rattle.images.specs.Changed.{variableSet, variablePut, referenceSet, referencePut};
 ghost use Rattle.images.specs.InPlace.{slotPut, presentPut};
@@ -411,6 +411,13 @@ fn slot_formed(p: &[u8]) -> bool
 
 // ---- a slot of an image
 
+// Where the bytes of the slot with this key begin.
+pub fn start(k: Key) -> usize
+    ensures { λ r. ⌜ r ≡ headSize + slotSize * k .0 ⌝ }
+{
+    head::SIZE + SLOT_SIZE * k.0 as usize
+}
+
 // Slot i of an image.
 pub fn slot_at(b: &[u8], i: usize) -> Slot
     requires { ⌜ Sized (now b) × (i < keyCount) ⌝ }
@@ -513,8 +520,8 @@ fn set_variable(v: Variable, d: Datum, p: &mut [u8])
     ensures { λ _. ⌜ now (p .exit) ≡ variableSet (v .0) d (now (p .entry)) ⌝ }
 {
     let i = v.0 as usize;
-    p[8 + i] = d.tag;
-    let at = 16 + 4 * i;
+    p[TAGS + i] = d.tag;
+    let at = NUMBERS + 4 * i;
     laws::write_word(d.number, &mut p[at..at + 4]);
 }
 
@@ -526,7 +533,7 @@ pub fn put_variable(k: Key, v: Variable, d: Datum, b: &mut [u8])
     if !k.is_key() {
         return;
     }
-    let at = 16 + SLOT_SIZE * k.0 as usize;
+    let at = head::SIZE + SLOT_SIZE * k.0 as usize;
     set_variable(v, d, &mut b[at..at + SLOT_SIZE]);
 }
 
@@ -534,7 +541,7 @@ fn set_reference(i: Reference, e: Key, p: &mut [u8])
     requires { ⌜ SlotSized (now p) × (i .0 < referenceCount) ⌝ }
     ensures { λ _. ⌜ now (p .exit) ≡ referenceSet (i .0) e (now (p .entry)) ⌝ }
 {
-    p[48 + i.0 as usize] = e.0;
+    p[REFS + i.0 as usize] = e.0;
 }
 
 // A reference of the process with this key takes another key; where there is no such process, none does.
@@ -545,7 +552,7 @@ pub fn put_reference(k: Key, i: Reference, e: Key, b: &mut [u8])
     if !k.is_key() {
         return;
     }
-    let at = 16 + SLOT_SIZE * k.0 as usize;
+    let at = head::SIZE + SLOT_SIZE * k.0 as usize;
     set_reference(i, e, &mut b[at..at + SLOT_SIZE]);
 }
 

@@ -1,11 +1,11 @@
 // The script image, taken apart: 64 nodes, each held to the row of its kind.
 ghost use mathlib.Core.Path.{_≡_};
-ghost use Prim.Native.Nat.{_<_};
+ghost use Prim.Native.Nat.{_+_, _*_, _<_};
 ghost use lib.ListN.{length};
 ghost use mathlib.Core.Bool.{true, _&&_};
 ghost use Rattle.names.specs.Names.{nodeCount};
 ghost use Rattle.images.specs.Head.{partAt};
-ghost use Rattle.images.specs.Sizes.{nodeSize, NodeSized, Scripted};
+ghost use Rattle.images.specs.Sizes.{headSize, nodeSize, NodeSized, Scripted};
 ghost use Rattle.images.specs.Script.{kindCount, fieldCount, rowOf, nodeInPlace, targetInPlace, referenceInPlace, fieldInRange, isBlank, countInPlace, fieldInPlace, fieldsInPlace, sameFormal, freshFormal, formalsDistinct, placesInRow, fieldsInRow, actionInRange};
 ghost use Rattle.images.specs.Read.{fieldOf, actionOf, actionFormed, nodesFormed, scriptOf, scriptFormed, nilAction, nodeWith, badScript, readScript};
 use super::Action;
@@ -378,6 +378,13 @@ fn action_formed(p: &[u8]) -> bool
 }
 
 // ---- a node of an image
+
+// Where the bytes of the node of this number begin.
+pub fn start(k: Node) -> usize
+    ensures { λ r. ⌜ r ≡ headSize + nodeSize * k .0 ⌝ }
+{
+    head::SIZE + NODE_SIZE * k.0 as usize
+}
 
 // Node i of an image.
 fn action_at(b: &[u8], i: usize) -> Action
