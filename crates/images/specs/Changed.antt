@@ -79,7 +79,7 @@ below-eight P a b c d e f g h (suc (suc (suc (suc (suc (suc zero)))))) l = g
 below-eight P a b c d e f g h (suc (suc (suc (suc (suc (suc (suc zero))))))) l = h
 below-eight P a b c d e f g h (suc (suc (suc (suc (suc (suc (suc (suc j)))))))) l = absurd (omega arith)
 
-below-four : (P : ℕ → Type 0) → P 0 → P 1 → P 2 → P 3 → (j : ℕ) → j < 4 → P j
+pub below-four : (P : ℕ → Type 0) → P 0 → P 1 → P 2 → P 3 → (j : ℕ) → j < 4 → P j
 below-four P a b c d zero l = a
 below-four P a b c d (suc zero) l = b
 below-four P a b c d (suc (suc zero)) l = c
@@ -132,7 +132,7 @@ referencePut k i e b = partPut k (referenceSet (i .0) e) b
 
 module _ {A : Type 0} where
   -- a part that was written is there, and is written over
-  part-there : (a c : ℕ) (xs ys : List A) → a ≤ length xs → length ys ≡ c → take c (drop a (put a c xs ys)) ≡ ys
+  pub part-there : (a c : ℕ) (xs ys : List A) → a ≤ length xs → length ys ≡ c → take c (drop a (put a c xs ys)) ≡ ys
   part-there a c xs ys h e =
       ap (take c) (drop-at (take a xs) (ys ++ drop c (drop a xs)) a (length-take-le a xs h)) ∙ take-at ys (drop c (drop a xs)) c e
 

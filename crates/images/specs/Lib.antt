@@ -11,6 +11,7 @@ pub mod Shape
 pub mod Round
 pub mod InPlace
 pub mod Changed
+pub mod After
 pub mod Formed
 pub mod Reading
 pub mod Examples

@@ -480,6 +480,28 @@ pub fn slot_in(b: &[u8], k: Key) -> Slot
     free_slot()
 }
 
+// The kind of the slot with this key; free where there is no such key.
+pub fn kind_in(b: &[u8], k: Key) -> u8
+    requires { ⌜ Sized (now b) ⌝ }
+    ensures { λ r. ⌜ r ≡ slotWith (netOf (now (b .entry))) k .kind ⌝ }
+{
+    if !k.is_key() {
+        return Slot::FREE;
+    }
+    b[start(k) + KIND]
+}
+
+// Where the record with this key is; locality 0 where there is no such key.
+pub fn locality_in(b: &[u8], k: Key) -> Locality
+    requires { ⌜ Sized (now b) ⌝ }
+    ensures { λ r. ⌜ r ≡ slotWith (netOf (now (b .entry))) k .locality ⌝ }
+{
+    if !k.is_key() {
+        return Locality(0);
+    }
+    Locality(b[start(k) + HOME])
+}
+
 // The localities that are present in an image.
 pub fn present_in(b: &[u8]) -> Localities
     requires { ⌜ Sized (now b) ⌝ }
