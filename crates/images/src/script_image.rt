@@ -305,12 +305,10 @@ fn places_in_row(r: Row, a: Action) -> bool
     if !node_in_place(r.other, a.other) {
         return false;
     }
-    let target = a.target;
-    if !target_in_place(r.target, target) {
+    if !target_in_place(r.target, a.target) {
         return false;
     }
-    let reference = a.reference;
-    reference_in_place(r.reference, reference)
+    reference_in_place(r.reference, a.reference)
 }
 
 fn fields_in_row(r: Row, a: Action) -> bool

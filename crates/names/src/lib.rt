@@ -3,7 +3,7 @@
 ghost use mathlib.Core.Path.{_≡_};
 ghost use Prim.Native.Nat.{_<_};
 ghost use lib.Dec.{ltb};
-ghost use Rattle.names.specs.Names.{keyCount, localityCount, belowOrNone, isKey, isKeyOrNone, isLocality, isLocalityOrNone, isNode, isReferenceOrNone, keyOf, keyOrNone, localityOf, localityOrNone, variableOf, nodeOf};
+ghost use Rattle.names.specs.Names.{keyCount, localityCount, belowOrNone, isKey, isLocality, isNode, isReferenceOrNone, keyOf, keyOrNone, localityOf, localityOrNone, variableOf, nodeOf};
 ghost use Rattle.names.specs.Localities.{localities, holds, joined, parted};
 ghost use Rattle.names.specs.KeySets.{isIn, including, excluding, either, both, isEmpty};
 
@@ -56,10 +56,7 @@ pub enum NodeRead {
 fn below_or_none(b: u8, count: u8) -> bool
     ensures { λ r. ⌜ r ≡ belowOrNone count b ⌝ }
 {
-    if b == NONE {
-        return true;
-    }
-    b < count
+    b == NONE || b < count
 }
 
 impl Key {
@@ -93,12 +90,6 @@ impl Key {
         ensures { λ r. ⌜ r ≡ isKey self ⌝ }
     {
         self.0 < Key::LIMIT
-    }
-
-    pub fn is_key_or_none(self) -> bool
-        ensures { λ r. ⌜ r ≡ isKeyOrNone self ⌝ }
-    {
-        below_or_none(self.0, Key::LIMIT)
     }
 }
 
@@ -153,12 +144,6 @@ impl Locality {
         ensures { λ r. ⌜ r ≡ ltb x localityCount ⌝ }
     {
         x < Locality::LIMIT as u32
-    }
-
-    pub fn is_locality_or_none(self) -> bool
-        ensures { λ r. ⌜ r ≡ isLocalityOrNone self ⌝ }
-    {
-        below_or_none(self.0, Locality::LIMIT)
     }
 }
 

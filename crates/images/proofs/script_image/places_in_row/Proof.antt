@@ -28,8 +28,8 @@ returns-3 : tie.Need-returns-3
 unfolding placesInRow
 returns-3 c =
     rw (
-      sym (c .before .before .before .before .before .before .node-in-place .ensures) ∙ not-false _ (c .before .before .before .before .before .if1 .left),
-      sym (c .before .before .before .before .node-in-place2 .ensures) ∙ not-false _ (c .before .before .before .if2 .left),
+      sym (c .before .before .before .before .before .node-in-place .ensures) ∙ not-false _ (c .before .before .before .before .if1 .left),
+      sym (c .before .before .before .node-in-place2 .ensures) ∙ not-false _ (c .before .before .if2 .left),
       sym (c .before .target-in-place .ensures) ∙ not-true _ (c .if3 .taken),
     )
 
@@ -40,9 +40,9 @@ returns-4 : tie.Need-returns-4
 unfolding placesInRow
 returns-4 c =
     rw (
-      sym (c .before .before .before .before .before .before .before .before .node-in-place .ensures) ∙ not-false _ (c .before .before .before .before .before .before .before .if1 .left),
-      sym (c .before .before .before .before .before .before .node-in-place2 .ensures) ∙ not-false _ (c .before .before .before .before .before .if2 .left),
-      sym (c .before .before .before .target-in-place .ensures) ∙ not-false _ (c .before .before .if3 .left),
+      sym (c .before .before .before .before .before .before .node-in-place .ensures) ∙ not-false _ (c .before .before .before .before .before .if1 .left),
+      sym (c .before .before .before .before .node-in-place2 .ensures) ∙ not-false _ (c .before .before .before .if2 .left),
+      sym (c .before .before .target-in-place .ensures) ∙ not-false _ (c .before .if3 .left),
       c .reference-in-place .ensures,
     )
 
