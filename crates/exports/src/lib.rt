@@ -12,11 +12,16 @@ use machine::call;
 use requests::Answer;
 use requests::number;
 
+// The first bit of a count or a name, and of localities, in the word.
+const NAME: u64 = 1 << 8;
+
+const TOUCHED: u64 = 1 << 32;
+
 // Bits 0 to 7 the answer's number, 8 to 15 a count or a name, 32 to 63 localities.
 fn pack(answer: Answer, name: u8, touched: u32) -> u64
     ensures { λ r. ⌜ r ≡ packed (number answer) name touched ⌝ }
 {
-    number(answer) as u64 + 256 * name as u64 + 4294967296 * touched as u64
+    number(answer) as u64 + NAME * name as u64 + TOUCHED * touched as u64
 }
 
 // Codes 0 to 3: the net is written only where the answer is 0.
