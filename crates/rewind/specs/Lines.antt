@@ -1,17 +1,20 @@
 -- The text of an answer. Document 01: "prints a line each: answer, undone in decimal, touched as 8 lower-case hex digits".
--- In order: a number below 100 (`decimal`), a hex digit (`hexDigit`), four and eight of them (`hexFour`, `hexWord`); a line (`lineOf`), which is
--- short (`line-short`); what putting bytes into an output leaves (`Puts`), of one byte (`puts-one`) and of bytes after bytes (`puts-more`).
+-- In order: a number below 100 (`decimal`), a hex digit (`hexDigit`), four and eight of them (`hexFour`, `hexWord`); the numbers beside an answer
+-- (`numbersOf`), a line (`lineOf`), which is short (`line-short`), and one whose numbers are 0 (`line-nothing`); what putting bytes into an output
+-- leaves (`Puts`), of one byte (`puts-one`) and of bytes after bytes (`puts-more`).
 -- Assumes nothing.
 use Prim.Native.Nat.{ℕ, _+_, _/_, _%_, _<_, _≤_}
 use mathlib.Core.Path.{_≡_, refl, sym, ap, _∙_, subst}
+use mathlib.Core.Bool.{Bool, true, _&&_}
 use mathlib.Core.List.{List, [], _∷_, _++_, append-assoc}
 use native.Mathlib.Nat.{add-assoc}
 use native.Mathlib.Numerals.{add-one}
 use native.Mathlib.Omega.{arith}
-use lib.Dec.{ltb}
+use lib.Dec.{ltb, eqb}
 use lib.ListN.{length, take, set, length-append, length-set}
 use lib.Seq.{take-suc-set}
-use Rattle.laws.specs.Choice.{pick, cases}
+use borrow.Author.Tests.{eqb-true}
+use Rattle.laws.specs.Choice.{pick, cases, and-left, and-right}
 use Rattle.requests.specs.Requests.{number}
 use Rattle.requests.specs.declared.Told.{Told}
 
@@ -31,9 +34,20 @@ hexFour w = hexDigit (w / 4096 % 16) ∷ hexDigit (w / 256 % 16) ∷ hexDigit (w
 unfoldable pub hexWord : ℕ → List ℕ
 hexWord w = hexFour (w / 65536) ++ hexFour w
 
--- answer, undone and touched, a space (32) between them, and the line's end (10)
+-- undone and touched, a space (32) before each, and the line's end (10)
+unfoldable pub numbersOf : ℕ → ℕ → List ℕ
+numbersOf undone touched = (32 ∷ []) ++ decimal undone ++ (32 ∷ []) ++ hexWord touched ++ (10 ∷ [])
+
 unfoldable pub lineOf : Told → List ℕ
-lineOf t = decimal (number (t .answer)) ++ (32 ∷ []) ++ decimal (t .undone) ++ (32 ∷ []) ++ hexWord (t .touched .0) ++ (10 ∷ [])
+lineOf t = decimal (number (t .answer)) ++ numbersOf (t .undone) (t .touched .0)
+
+-- the longest line: two digits, a space, two digits, a space, eight digits and the line's end
+abbrev pub lineSize : ℕ
+lineSize = 15
+
+-- nothing was undone or touched
+abbrev pub tellsNothing : Told → Bool
+tellsNothing t = eqb (t .undone) 0 && eqb (t .touched .0) 0
 
 pub decimal-short : (n : ℕ) → length (decimal n) ≤ 2
 unfolding decimal
@@ -73,7 +87,19 @@ pub length-word : (w : ℕ) → length (hexWord w) ≡ 8
 unfolding hexWord hexFour
 length-word w = refl
 
-pub line-short : (t : Told) → length (lineOf t) ≤ 15
-unfolding lineOf
+pub line-short : (t : Told) → length (lineOf t) ≤ lineSize
+unfolding lineOf numbersOf
 line-short t =
     simp length-append (omega (arith, decimal-short (number (t .answer)), decimal-short (t .undone), length-word (t .touched .0)))
+
+-- the numbers that are 0 stand there as their text
+pub nothing-text : 32 ∷ 48 ∷ 32 ∷ 48 ∷ 48 ∷ 48 ∷ 48 ∷ 48 ∷ 48 ∷ 48 ∷ 48 ∷ 10 ∷ [] ≡ numbersOf 0 0
+unfolding numbersOf decimal hexWord hexFour
+nothing-text = refl
+
+pub line-nothing : (t : Told) (k : ℕ) → k ≡ number (t .answer) → tellsNothing t ≡ true → decimal k ++ numbersOf 0 0 ≡ lineOf t
+unfolding lineOf
+line-nothing t k e h =
+    let undone : t .undone ≡ 0 = eqb-true (t .undone) 0 (and-left (eqb (t .undone) 0) _ h) in
+    let touched : t .touched .0 ≡ 0 = eqb-true (t .touched .0) 0 (and-right (eqb (t .undone) 0) _ h) in
+    λ i. decimal (e i) ++ numbersOf (sym undone i) (sym touched i)

@@ -21,6 +21,13 @@ use Rattle.rewind.specs.Lines.{lineOf, line-short, Puts}
 
 -- ---- requests one after the other
 
+-- the bytes of one, and how many are answered at a time
+abbrev pub requestSize : ℕ
+requestSize = 6
+
+abbrev pub requestRoom : ℕ
+requestRoom = 4096
+
 -- the lines so far, and the bytes of the net
 pub record Run : Type 0 where
   pub text : List ℕ
@@ -31,7 +38,7 @@ abbrev pub next : List ℕ → Run → List ℕ → Run
 next script a q = record { text = a .text ++ lineOf (reply script (a .net) q .told); net = reply script (a .net) q .net }
 
 abbrev pub requestAt : List ℕ → ℕ → List ℕ
-requestAt b k = take 6 (drop (k * 6) b)
+requestAt b k = take requestSize (drop (k * requestSize) b)
 
 -- the first k requests of a chunk
 unfoldable pub answered : List ℕ → List ℕ → List ℕ → ℕ → Run

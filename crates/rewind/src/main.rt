@@ -4,7 +4,10 @@ ghost use mathlib.Core.Path.{_≡_};
 ghost use Prim.Native.Nat.{_-_, _*_, _/_, _%_, _≤_};
 ghost use lib.ListN.{length, take, drop};
 ghost use Rattle.machine.specs.Calls.{GoodImages};
-ghost use Rattle.rewind.specs.Run.{runOf, answered};
+ghost use Rattle.rewind.specs.Lines.{lineSize};
+ghost use Rattle.rewind.specs.Run.{requestSize, requestRoom, runOf, answered};
+use images::net_image;
+use images::script_image;
 use libc::STDIN_FILENO;
 use libc::STDOUT_FILENO;
 use lines::LINE;
@@ -19,14 +22,12 @@ use step::checks::all_hold;
 
 mod lines;
 
-const SCRIPT_SIZE: usize = 2064;
+// How many requests are answered at a time, and room for their bytes and for their lines.
+const REQUESTS: usize = 4096;
 
-const NET_SIZE: usize = 3600;
+const INPUT_ROOM: usize = REQUESTS * Request::SIZE;
 
-// Room for the bytes of 4,096 requests, which are answered at a time, and for their lines.
-const INPUT_ROOM: usize = 24576;
-
-const OUTPUT_ROOM: usize = 61440;
+const OUTPUT_ROOM: usize = REQUESTS * LINE;
 
 // ---- requests that have arrived
 
@@ -34,8 +35,8 @@ const OUTPUT_ROOM: usize = 61440;
 // they end.
 fn answer_chunk(script: &[u8], net: &mut [u8], requests: &[u8], out: &mut [u8]) -> usize
     requires { ⌜ GoodImages (now script) (now net) ⌝ }
-    requires { ⌜ 15 * (length (now requests) / 6) ≤ length (now out) ⌝ }
-    ensures { λ r. ⌜ runOf (now (out .exit)) r (now (net .exit)) ≡ answered (now (script .entry)) (now (net .entry)) (now (requests .entry)) (length (now (requests .entry)) / 6) ⌝ }
+    requires { ⌜ lineSize * (length (now requests) / requestSize) ≤ length (now out) ⌝ }
+    ensures { λ r. ⌜ runOf (now (out .exit)) r (now (net .exit)) ≡ answered (now (script .entry)) (now (net .entry)) (now (requests .entry)) (length (now (requests .entry)) / requestSize) ⌝ }
     ensures { λ r. ⌜ (r ≤ length (now (out .exit))) × GoodImages (now (script .entry)) (now (net .exit)) ⌝ }
 {
     let count = requests.len() / Request::SIZE;
@@ -43,7 +44,7 @@ fn answer_chunk(script: &[u8], net: &mut [u8], requests: &[u8], out: &mut [u8]) 
     let mut k: usize = 0;
     while k < count {
         let at = k * Request::SIZE;
-        let t = call_on(script, net, &requests[at..at + 6]);
+        let t = call_on(script, net, &requests[at..at + Request::SIZE]);
         end = put_line(t, out, end);
         k += 1;
     }
@@ -55,7 +56,7 @@ fn answer_chunk(script: &[u8], net: &mut [u8], requests: &[u8], out: &mut [u8]) 
 // The bytes after the last whole request, moved to the front; how many they are.
 fn keep_rest(input: &mut [u8], whole: usize) -> usize
     requires { ⌜ whole ≤ length (now input) ⌝ }
-    ensures { λ r. ⌜ r ≡ whole % 6 ⌝ }
+    ensures { λ r. ⌜ r ≡ whole % requestSize ⌝ }
     ensures { λ r. ⌜ take r (now (input .exit)) ≡ take r (drop (whole - r) (now (input .entry))) ⌝ }
 {
     let rest = whole % Request::SIZE;
@@ -101,7 +102,7 @@ fn print_rest(rest: usize) {
 // The count of turns is one that no run comes to.
 fn answer_all(script: &[u8], net: &mut [u8], input: &mut [u8], out: &mut [u8])
     requires { ⌜ GoodImages (now script) (now net) ⌝ }
-    requires { ⌜ (length (now input) ≡ 24576) × (length (now out) ≡ 61440) ⌝ }
+    requires { ⌜ (length (now input) ≡ requestRoom * requestSize) × (length (now out) ≡ requestRoom * lineSize) ⌝ }
 {
     let mut have: usize = 0;
     let mut turns: u64 = 18446744073709551615;
@@ -122,10 +123,10 @@ fn answer_all(script: &[u8], net: &mut [u8], input: &mut [u8], out: &mut [u8])
 
 // "A bad script or net prints one such line and ends."
 fn main() {
-    let mut script_space = [0u8; SCRIPT_SIZE];
+    let mut script_space = [0u8; script_image::SIZE];
     let script: &mut [u8] = &mut script_space;
     let script_length = io::read_full(STDIN_FILENO, script);
-    let mut net_space = [0u8; NET_SIZE];
+    let mut net_space = [0u8; net_image::SIZE];
     let net: &mut [u8] = &mut net_space;
     let net_length = io::read_full(STDIN_FILENO, net);
     let script_read = &script[..];

@@ -1,50 +1,48 @@
 -- `put_line` meets its contract. Assumes nothing.
-use mathlib.Core.Path.{ap}
-use mathlib.Core.List.{[], _∷_, _++_}
 use Prim.Native.Nat.{ℕ}
+use mathlib.Core.Path.{sym, ap, _∙_}
+use mathlib.Core.List.{_++_}
 use native.Mathlib.Omega.{arith}
 use Rattle.machine.specs.Bytes.{number-few}
-use Rattle.rewind.specs.Lines.{decimal, hexWord, lineOf, decimal-short, length-word, puts-more, puts-same}
+use Rattle.rewind.specs.Lines.{decimal, numbersOf, lineOf, decimal-short, line-nothing, puts-more, puts-same}
 use borrow.Author.Needs.{needs}
 use Rattle.rewind.proofs.lines.put_line.Statement.{statement}
 use Rattle.rewind.proofs.lines.put_line.Tie as tie
 use Rattle.rewind.proofs.lines.put_line.Reads as reads
 use Rattle.rewind.proofs.lines.put_line.Lts as lts
 use Rattle.requests.proofs.number.Reads as number-reads
-use Rattle.rewind.proofs.lines.put.Reads as put-reads
 use Rattle.rewind.proofs.lines.put_decimal.Reads as put-decimal-reads
-use Rattle.rewind.proofs.lines.put_word.Reads as put-word-reads
+use Rattle.rewind.proofs.lines.put_nothing.Reads as put-nothing-reads
+use Rattle.rewind.proofs.lines.put_numbers.Reads as put-numbers-reads
+use Rattle.rewind.proofs.lines.tells_nothing.Reads as tells-nothing-reads
 
 number-requires : tie.Need-number-requires
 number-requires c κs = search needs
 
 put-decimal-requires : tie.Need-put-decimal-requires
-put-decimal-requires c κs = (omega (arith, c .before .number .ensures, number-few (c .before .before .before .before .args .t .answer)), omega (arith, c .before .before .before .before .pre .1))
+put-decimal-requires c κs = (omega (arith, c .before .number .ensures, number-few (c .before .before .before .args .t .answer)), omega (arith, c .before .before .before .pre .1))
 
-put-requires : tie.Need-put-requires
-put-requires c κs = omega (arith, c .before .before .before .before .before .before .before .before .pre .1, c .before .before .before .put-decimal .ensures .kept, c .before .before .before .put-decimal .ensures .ends, decimal-short (c .before .before .before .before .before .number .result))
+tells-nothing-requires : tie.Need-tells-nothing-requires
+tells-nothing-requires c κs = search needs
 
-put-decimal-requires-2 : tie.Need-put-decimal-requires-2
-put-decimal-requires-2 c κs = (c .before .before .before .before .before .before .before .before .before .before .before .before .pre .0, omega (arith, c .before .before .before .before .before .before .before .before .before .before .before .before .pre .1, c .before .before .before .before .before .before .before .put-decimal .ensures .kept, c .before .before .before .before .before .before .before .put-decimal .ensures .ends, decimal-short (c .before .before .before .before .before .before .before .before .before .number .result), c .before .before .before .put .ensures .kept, c .before .before .before .put .ensures .ends))
-
-put-requires-2 : tie.Need-put-requires-2
-put-requires-2 c κs = omega (arith, c .before .before .before .before .before .before .before .before .before .before .before .before .before .before .before .before .pre .1, c .before .before .before .before .before .before .before .before .before .before .before .put-decimal .ensures .kept, c .before .before .before .before .before .before .before .before .before .before .before .put-decimal .ensures .ends, decimal-short (c .before .before .before .before .before .before .before .before .before .before .before .before .before .number .result), c .before .before .before .before .before .before .before .put .ensures .kept, c .before .before .before .before .before .before .before .put .ensures .ends, c .before .before .before .put-decimal2 .ensures .kept, c .before .before .before .put-decimal2 .ensures .ends, decimal-short (c .before .before .before .before .before .before .before .before .before .before .before .before .before .before .before .before .args .t .undone))
-
-put-word-requires : tie.Need-put-word-requires
-put-word-requires c κs = omega (arith, c .before .before .before .before .before .before .before .before .before .before .before .before .before .before .before .before .before .before .before .before .pre .1, c .before .before .before .before .before .before .before .before .before .before .before .before .before .before .before .put-decimal .ensures .kept, c .before .before .before .before .before .before .before .before .before .before .before .before .before .before .before .put-decimal .ensures .ends, decimal-short (c .before .before .before .before .before .before .before .before .before .before .before .before .before .before .before .before .before .number .result), c .before .before .before .before .before .before .before .before .before .before .before .put .ensures .kept, c .before .before .before .before .before .before .before .before .before .before .before .put .ensures .ends, c .before .before .before .before .before .before .before .put-decimal2 .ensures .kept, c .before .before .before .before .before .before .before .put-decimal2 .ensures .ends, decimal-short (c .before .before .before .before .before .before .before .before .before .before .before .before .before .before .before .before .before .before .before .before .args .t .undone), c .before .before .before .put2 .ensures .kept, c .before .before .before .put2 .ensures .ends)
-
-put-requires-3 : tie.Need-put-requires-3
-put-requires-3 c κs = omega (arith, c .before .before .before .before .before .before .before .before .before .before .before .before .before .before .before .before .before .before .before .before .before .before .before .before .pre .1, c .before .before .before .before .before .before .before .before .before .before .before .before .before .before .before .before .before .before .before .put-decimal .ensures .kept, c .before .before .before .before .before .before .before .before .before .before .before .before .before .before .before .before .before .before .before .put-decimal .ensures .ends, decimal-short (c .before .before .before .before .before .before .before .before .before .before .before .before .before .before .before .before .before .before .before .before .before .number .result), c .before .before .before .before .before .before .before .before .before .before .before .before .before .before .before .put .ensures .kept, c .before .before .before .before .before .before .before .before .before .before .before .before .before .before .before .put .ensures .ends, c .before .before .before .before .before .before .before .before .before .before .before .put-decimal2 .ensures .kept, c .before .before .before .before .before .before .before .before .before .before .before .put-decimal2 .ensures .ends, decimal-short (c .before .before .before .before .before .before .before .before .before .before .before .before .before .before .before .before .before .before .before .before .before .before .before .before .args .t .undone), c .before .before .before .before .before .before .before .put2 .ensures .kept, c .before .before .before .before .before .before .before .put2 .ensures .ends, c .before .before .before .put-word .ensures .kept, c .before .before .before .put-word .ensures .ends, length-word (c .before .before .before .before .before .before .before .before .before .before .before .before .before .before .before .before .before .before .before .before .before .before .before .before .args .t .touched .0))
+put-nothing-requires : tie.Need-put-nothing-requires
+put-nothing-requires c κs = omega (arith, c .before .before .before .before .before .before .before .before .before .pre .1, c .before .before .before .before .before .put-decimal .ensures .kept, c .before .before .before .before .before .put-decimal .ensures .ends, decimal-short (c .before .before .before .before .before .before .before .number .result))
 
 same-length : tie.Need-same-length
 same-length c = search needs
 
 returns : tie.Need-returns
+returns c = puts-same (line-nothing (c .before .before .before .before .before .before .before .before .before .before .before .before .args .t) (c .before .before .before .before .before .before .before .before .before .before .number .result) (c .before .before .before .before .before .before .before .before .before .before .number .ensures) (sym (c .before .before .before .before .before .tells-nothing .ensures) ∙ c .before .before .before .before .if1 .taken)) (puts-more (c .before .before .before .before .before .before .before .before .put-decimal .ensures) (c .before .before .put-nothing .ensures))
+
+put-numbers-requires : tie.Need-put-numbers-requires
+put-numbers-requires c κs = (c .before .before .before .before .before .before .before .before .before .before .pre .0, omega (arith, c .before .before .before .before .before .before .before .before .before .before .pre .1, c .before .before .before .before .before .before .put-decimal .ensures .kept, c .before .before .before .before .before .before .put-decimal .ensures .ends, decimal-short (c .before .before .before .before .before .before .before .before .number .result)))
+
+same-length-2 : tie.Need-same-length-2
+same-length-2 c = search needs
+
+returns-2 : tie.Need-returns-2
 unfolding lineOf
-returns c =
-    puts-same
-    (ap (λ (k : ℕ). decimal k ++ (32 ∷ []) ++ decimal (c .before .before .before .before .before .before .before .before .before .before .before .before .before .before .before .before .before .before .before .before .before .before .before .before .before .before .before .args .t .undone) ++ (32 ∷ []) ++ hexWord (c .before .before .before .before .before .before .before .before .before .before .before .before .before .before .before .before .before .before .before .before .before .before .before .before .before .before .before .args .t .touched .0) ++ (10 ∷ [])) (c .before .before .before .before .before .before .before .before .before .before .before .before .before .before .before .before .before .before .before .before .before .before .before .before .number .ensures))
-    (puts-more (puts-more (puts-more (puts-more (puts-more (c .before .before .before .before .before .before .before .before .before .before .before .before .before .before .before .before .before .before .before .before .before .before .put-decimal .ensures) (c .before .before .before .before .before .before .before .before .before .before .before .before .before .before .before .before .before .before .put .ensures)) (c .before .before .before .before .before .before .before .before .before .before .before .before .before .before .put-decimal2 .ensures)) (c .before .before .before .before .before .before .before .before .before .before .put2 .ensures)) (c .before .before .before .before .before .before .put-word .ensures)) (c .before .before .put3 .ensures))
+returns-2 c = puts-same (ap (λ (k : ℕ). decimal k ++ numbersOf (c .before .before .before .before .before .before .before .before .before .before .before .before .before .args .t .undone) (c .before .before .before .before .before .before .before .before .before .before .before .before .before .args .t .touched .0)) (c .before .before .before .before .before .before .before .before .before .before .before .number .ensures)) (puts-more (c .before .before .before .before .before .before .before .before .before .put-decimal .ensures) (c .before .before .put-numbers .ensures))
 
 pub put-line-spec : {M : Type 1} → statement M
 put-line-spec =
@@ -52,10 +50,10 @@ put-line-spec =
     (tie.spec
     number-requires
     put-decimal-requires
-    put-requires
-    put-decimal-requires-2
-    put-requires-2
-    put-word-requires
-    put-requires-3
+    tells-nothing-requires
+    put-nothing-requires
     same-length
-    returns)
+    returns
+    put-numbers-requires
+    same-length-2
+    returns-2)
