@@ -1,5 +1,5 @@
 -- What is looked up in a net's bytes after some were written: a slot written at one key leaves the others and the present set, and is itself there.
--- In order: bytes of one slot (`slot-byte`); a slot at another key (`slot-other`), the present set (`present-other`); the slot itself, by what it
+-- In order: bytes of one slot (`slot-byte`, `kind-byte`, `home-byte`, `used-byte`); a slot at another key (`slot-other`), the present set (`present-other`); the slot itself, by what it
 -- carries (`slot-there`, `contents-there`, `refs-there`, `locality-there`).
 -- Assumes nothing.
 use Prim.Native.Nat.{ℕ, _+_, _-_, _*_, _<_, _≤_}
@@ -45,6 +45,11 @@ pub home-byte : (b : List ℕ) (k : Key) → ltb (k .0) keyCount ≡ true → ge
 unfolding slotOf
 home-byte b k h =
     sym (slot-byte b k h 1 (omega arith)) ∙ ap (λ (y : Slot). y .locality .0) (slot-part b (k .0) (ltb-true (k .0) 64 h)) ∙ rw h refl
+
+pub used-byte : (b : List ℕ) (k : Key) → ltb (k .0) keyCount ≡ true → getD b (16 + 56 * k .0 + 5) 0 ≡ slotWith (netOf b) k .used .0
+unfolding slotOf
+used-byte b k h =
+    sym (slot-byte b k h 5 (omega arith)) ∙ ap (λ (y : Slot). y .used .0) (slot-part b (k .0) (ltb-true (k .0) 64 h)) ∙ rw h refl
 
 -- ---- parts beside one that was written
 

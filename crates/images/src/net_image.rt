@@ -491,6 +491,17 @@ pub fn kind_in(b: &[u8], k: Key) -> u8
     b[start(k) + KIND]
 }
 
+// The tuple that the event with this key used; none is said by the mark, and by key 0 where there is no such key.
+pub fn used_in(b: &[u8], k: Key) -> Key
+    requires { ⌜ Sized (now b) ⌝ }
+    ensures { λ r. ⌜ r ≡ slotWith (netOf (now (b .entry))) k .used ⌝ }
+{
+    if !k.is_key() {
+        return Key(0);
+    }
+    Key(b[start(k) + USED])
+}
+
 // Where the record with this key is; locality 0 where there is no such key.
 pub fn locality_in(b: &[u8], k: Key) -> Locality
     requires { ⌜ Sized (now b) ⌝ }

@@ -188,7 +188,7 @@ fn references_after(a: Action, k: Key, refs: [Key; Reference::COUNT]) -> [Key; R
 }
 
 // A process that nothing happened to yet.
-fn live_process(
+pub fn live_process(
     locality: Locality,
     node: Node,
     contents: [Datum; Variable::COUNT],
@@ -226,7 +226,7 @@ pub fn continuation(a: Action, k: Key, x: Slot, fields: [Datum; Variable::COUNT]
 
 // ---- the second thing made
 
-fn field_made(vars: [Datum; Variable::COUNT], count: u8, j: u8, f: Field) -> Datum
+pub fn field_made(vars: [Datum; Variable::COUNT], count: u8, j: u8, f: Field) -> Datum
     ensures { λ r. ⌜ r ≡ fieldMade vars count j f ⌝ }
 {
     if j < count {
@@ -274,7 +274,7 @@ fn tuple_made(a: Action, x: Slot, at: Locality) -> Slot
 }
 
 // It has the variables and references of the process as it was.
-fn process_made(a: Action, x: Slot, at: Locality) -> Slot
+pub fn process_made(a: Action, x: Slot, at: Locality) -> Slot
     ensures { λ r. ⌜ r ≡ processAt a (bodyOf x) at ⌝ }
 {
     let node = a.other;

@@ -1,15 +1,28 @@
 // The checks of document 01's table, each by a function that answers whether it holds.
 ghost use mathlib.Core.Path.{_≡_};
+ghost use mathlib.Core.Bool.{true};
 ghost use lib.Dec.{eqb};
+ghost use Rattle.names.specs.Names.{isKey};
+ghost use Rattle.images.specs.Net.{isFree, slotWith};
+ghost use Rattle.images.specs.Read.{actionOf, netOf};
+ghost use Rattle.images.specs.Sizes.{NodeSized, Sized};
 ghost use Rattle.requests.specs.Answers.{asNeeded, noPlaces};
-ghost use Rattle.products.specs.Products.{isStep, targetThere};
+ghost use Rattle.products.specs.Products.{isStep, meetsTuple, targetThere};
 ghost use Rattle.requests.specs.Requests.{asked, isDone};
 ghost use Rattle.step.specs.Tests.{checked, placesBy, tupleThere, templateMet, secondFresh, placeFresh, namesFresh};
 use super::Check;
 use images::Action;
 use images::Datum;
 use images::Slot;
-use matching::template_meets;
+use images::net_image::SLOT_SIZE;
+use images::net_image::kind_in;
+use images::net_image::locality_in;
+use images::net_image::present_in;
+use images::net_image::start;
+use images::script_image::action_of;
+use matching::Match;
+use matching::match_tuple;
+use names::Key;
 use names::Localities;
 use names::Locality;
 use names::NONE;
@@ -111,33 +124,42 @@ pub fn target_present(kind: u8, present: Localities, l: Locality) -> Check
     told(b)
 }
 
-pub fn tuple_there(kind: u8, t: Slot, l: Locality) -> Check
-    ensures { λ r. ⌜ r ≡ checked (tupleThere kind t l) ⌝ }
+pub fn tuple_there(kind: u8, net: &[u8], used: Key, l: Locality) -> Check
+    requires { ⌜ Sized (now net) ⌝ }
+    ensures { λ r. ⌜ r ≡ checked (tupleThere kind (slotWith (netOf (now (net .entry))) used) l) ⌝ }
 {
     if !meets_tuple(kind) {
         return Check::Holds;
     }
-    if t.kind != Slot::TUPLE {
+    if kind_in(net, used) != Slot::TUPLE {
         return Check::Fails;
     }
-    let b = t.locality.0 == l.0;
+    let at = locality_in(net, used);
+    let b = at.0 == l.0;
     told(b)
 }
 
-pub fn template_met(a: Action, vars: [Datum; Variable::COUNT], t: Slot) -> Check
-    ensures { λ r. ⌜ r ≡ checked (templateMet a vars t) ⌝ }
+// The node's template against the tuple with this key; a node that meets none asks nothing.
+pub fn template_met(vars: [Datum; Variable::COUNT], node: &[u8], net: &[u8], used: Key) -> Check
+    requires { ⌜ NodeSized (now node) × Sized (now net) ⌝ }
+    requires { ⌜ ((meetsTuple (actionOf (now node) .kind) ≡ true) → (isKey used ≡ true)) ⌝ }
+    ensures { λ r. ⌜ r ≡ checked (templateMet (actionOf (now (node .entry))) vars (slotWith (netOf (now (net .entry))) used)) ⌝ }
 {
+    let a = action_of(node);
     if !meets_tuple(a.kind) {
         return Check::Holds;
     }
-    let fields = t.contents;
-    let b = template_meets(vars, a, t.count, fields);
-    told(b)
+    let at = start(used);
+    let met = match_tuple(vars, node, &net[at..at + SLOT_SIZE]);
+    let Match::Matches = met else {
+        return Check::Fails;
+    };
+    Check::Holds
 }
 
 // ---- 11: fresh names
 
-// Of the second key: whether its slot is free, and it is not the first.
+// Of the second key: its slot is free, and it is not the first.
 fn second_fresh(kind: u8, free: bool, r: Request) -> bool
     ensures { λ o. ⌜ o ≡ secondFresh kind free r ⌝ }
 {
@@ -162,18 +184,32 @@ fn place_fresh(kind: u8, present: Localities, l: Locality) -> bool
     !present.has(l)
 }
 
-// By whether the slots of the two fresh keys are free.
-pub fn names_fresh(kind: u8, one: bool, two: bool, present: Localities, r: Request) -> Check
-    ensures { λ o. ⌜ o ≡ checked (namesFresh kind one two present r) ⌝ }
+// "a fresh key not free": nothing is held there.
+fn is_free_in(net: &[u8], k: Key) -> bool
+    requires { ⌜ Sized (now net) ⌝ }
+    ensures { λ r. ⌜ r ≡ isFree (slotWith (netOf (now (net .entry))) k) ⌝ }
 {
-    if !one {
+    let kind = kind_in(net, k);
+    if kind == Slot::FREE {
+        return true;
+    }
+    Slot::CONSUMED < kind
+}
+
+// The fresh names that the request gives, in this net.
+pub fn names_fresh(kind: u8, net: &[u8], r: Request) -> Check
+    requires { ⌜ Sized (now net) ⌝ }
+    ensures { λ o. ⌜ o ≡ checked (namesFresh kind (isFree (slotWith (netOf (now (net .entry))) (r .first))) (isFree (slotWith (netOf (now (net .entry))) (r .second))) (netOf (now (net .entry)) .present) r) ⌝ }
+{
+    if !is_free_in(net, r.first) {
         return Check::Fails;
     }
-    if !second_fresh(kind, two, r) {
+    let free = is_free_in(net, r.second);
+    if !second_fresh(kind, free, r) {
         return Check::Fails;
     }
-    let place = r.place;
-    let b = place_fresh(kind, present, place);
+    let present = present_in(net);
+    let b = place_fresh(kind, present, r.place);
     told(b)
 }
 

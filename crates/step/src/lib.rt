@@ -1,5 +1,5 @@
-// Forward and backward steps over what is looked up in the lent bytes of a script and a net. The checks answer document 01's number from
-// check 4 on; a step that none refuses is written into the net's bytes: at most three slots, and the present set.
+// Forward and backward steps in the lent bytes of a script and a net. The checks answer document 01's number from check 4 on; a step that none
+// refuses is written into the net's bytes: at most three slots, and the present set.
 ghost use mathlib.Core.Path.{_≡_};
 ghost use Rattle.products.specs.Body.{bodyOf, fresh};
 use images::Slot;
@@ -9,7 +9,6 @@ use names::Locality;
 pub mod backward;
 pub mod checks;
 pub mod forward;
-pub mod in_place;
 
 // Whether a check of document 01's table holds.
 pub enum Check {
@@ -18,7 +17,7 @@ pub enum Check {
 }
 
 // The record as it would be made, of this kind: nothing made and nothing used.
-pub fn as_new(kind: u8, x: Slot) -> Slot
+fn as_new(kind: u8, x: Slot) -> Slot
     ensures { λ r. ⌜ r ≡ fresh kind (bodyOf x) ⌝ }
 {
     let locality = x.locality;
