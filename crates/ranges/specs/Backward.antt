@@ -94,7 +94,7 @@ module _ (s : Script) (n : Net) (good : netInRange n ≡ true) (taken : TakenCon
         (sym (ap (λ (z : N.Slot (rulesOf s)). isConsumed (z .kind)) (view-with s n (x .used)) ∙ consumed-is (t .kind)) ∙ ap isConsumed there)
 
     other-in : OfPut InRange (backwardOther (nodeWith s (x .node)) x t)
-    unfolding backwardOther
+    unfolding backPut
     other-in =
         cases (isKey (x .second)) (λ h. rw h (λ _. free-in-range))
         (λ h.
@@ -131,7 +131,7 @@ present-word kind present l h =
 
 module _ (s : Script) (n : Net) (v : ShapedNet n) where
   other-shaped : (a : Action) (x t : Slot) → ShapedSlot t → OfPut ShapedSlot (backwardOther a x t)
-  unfolding backwardOther
+  unfolding backPut
   other-shaped a x t w =
       cases (isKey (x .second)) (λ h. rw h (λ _. free-shaped))
       (λ h. cases (Products.isIn (a .kind)) (λ i. rw (h, i) (λ _. same-shaped 3 t w)) (λ i. rw (h, i) (λ _. free-shaped)))

@@ -1,11 +1,10 @@
 -- The backward step: document 01's answer from check 4 on, and what changes: "what it made becomes free or absent, a consumed tuple is live
 -- again, and it is live as before".
 -- In order: the third slot that changes (`backwardOther`); the localities (`presentBefore`); those touched (`freedAt`); a step that is done
--- (`backwardDone`); any step (`backwardChange`), and the same from the slots that the event names (`backwardBy`); the request that undoes an
--- event (`undoing`, `undoneBy`).
+-- (`backwardDone`, `undoneAt`); any step (`backwardChange`), and what a call gives (`backwardOutcome`); the request that undoes an event (`undoing`).
 -- Assumes nothing.
 use Prim.Native.Nat.{ℕ}
-use mathlib.Core.Bool.{Bool, _&&_}
+use mathlib.Core.Bool.{_&&_}
 use Rattle.laws.specs.Choice.{pick}
 use Rattle.names.specs.Names.{none, key, locality, isKey, isLocality}
 use Rattle.names.specs.Localities.{localities, joined, parted}
@@ -28,13 +27,16 @@ use Rattle.requests.specs.Requests.{asked, answerOf}
 use Rattle.requests.specs.declared.Request.{Request}
 use Rattle.requests.specs.declared.Answer.{Answer}
 use Rattle.requests.specs.declared.Answer.the-variants as Answer
-use Rattle.step.specs.Change.{Put, Change, put, nowhere, stepped}
-use Rattle.step.specs.Tests.{backwardTests}
+use Rattle.step.specs.Lent.{Outcome}
+use Rattle.step.specs.Change.{Put, Change, put, nowhere, stepped, steppedTo}
 
 -- the second thing made becomes free, or the tuple that an in took is live again
-unfoldable pub backwardOther : Action → Slot → Slot → Put
-backwardOther a x t =
-    pick (isKey (x .second)) (put (x .second) freeSlot) (pick (isIn (a .kind)) (put (x .used) (liveTuple (bodyOf t))) nowhere)
+unfoldable pub backPut : ℕ → Key → Key → Slot → Put
+backPut kind second used t =
+    pick (isKey second) (put second freeSlot) (pick (isIn kind) (put used (liveTuple (bodyOf t))) nowhere)
+
+abbrev pub backwardOther : Action → Slot → Slot → Put
+backwardOther a x t = backPut (a .kind) (x .second) (x .used) t
 
 unfoldable pub presentBefore : ℕ → Localities → Locality → Localities
 presentBefore kind present l = pick (isNewloc kind && isLocality l) (parted present l) present
@@ -69,16 +71,10 @@ undoneAt s n k =
 unfoldable pub backwardChange : Script → Net → Request → Change
 backwardChange s n r = stepped (n .present) (backwardAnswer s n r) (undoneAt s n (r .key))
 
--- Whoever holds the net looks up what the event names: the event x at its node a, what stands at the keys that it made (first and second) and
--- used (t), and whether no past read used what it made (unread). With these it is `backwardChange` of the net (`TestedBackward`,
--- `backward-looked`).
-unfoldable pub backwardBy : Action → Slot → Slot → Slot → Slot → Bool → Localities → Request → Change
-backwardBy a x first second t unread present r =
-    stepped present (answerOf (refusal (backwardTests a x first second t unread r))) (backwardDone a x first second t present (r .key))
+-- what a call of code 1 gives
+unfoldable pub backwardOutcome : Script → Net → Request → Outcome
+backwardOutcome s n r = steppedTo n (backwardChange s n r)
 
 -- the request that undoes an event
 abbrev pub undoing : Key → Request
 undoing k = record { code = 1; key = k; used = key none; first = key none; second = key none; place = locality none }
-
-abbrev pub undoneBy : Action → Slot → Slot → Slot → Slot → Bool → Localities → Key → Change
-undoneBy a x first second t unread present k = backwardBy a x first second t unread present (undoing k)

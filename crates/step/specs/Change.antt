@@ -1,6 +1,6 @@
 -- What a step changes, and the net once that is written.
 -- In order: a slot and where it goes (`Put`); a change (`Change`); a slot at a key (`put`) or none (`nowhere`); a refusal (`refused`); a step by its answer (`stepped`,
--- `stepped-yes`, `stepped-no`); a change written (`putIn`, `applied`).
+-- `stepped-yes`, `stepped-no`); a change written (`putIn`, `applied`), as an outcome (`steppedTo`).
 -- Assumes nothing.
 use Prim.Native.Nat.{ℕ}
 use mathlib.Core.Path.{_≡_, ap, sym, _∙_}
@@ -16,6 +16,7 @@ use Rattle.images.specs.declared.Slot.{Slot}
 use Rattle.images.specs.declared.Net.{Net}
 use Rattle.requests.specs.Requests.{isDone}
 use Rattle.requests.specs.declared.Answer.{Answer}
+use Rattle.step.specs.Lent.{Outcome}
 
 -- a slot, and the key that it is put at; none where nothing is put
 pub record Put : Type 0 where
@@ -72,3 +73,7 @@ putIn n p = pick (isKey (p .key)) (record { present = n .present; slots = set (n
 -- the net once the change is written
 unfoldable pub applied : Net → Change → Net
 applied n c = record { present = c .present; slots = putIn (putIn (putIn n (c .event)) (c .first)) (c .other) .slots }
+
+-- a step as an outcome: its change is written
+abbrev pub steppedTo : Net → Change → Outcome
+steppedTo n c = record { answer = c .answer; undone = c .undone; touched = c .touched; net = applied n c }

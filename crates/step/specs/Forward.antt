@@ -1,7 +1,7 @@
 -- The forward step: document 01's answer from check 4 on, and what changes. What the checks are is said in `requests`, and what a rule makes in
 -- `products`.
 -- In order: the process once it is past (`pastSlot`); the third slot that changes (`forwardOther`); the localities (`presentAfter`); a step that
--- is done (`forwardDone`); any step (`forwardChange`), and the same from the slots that the request names (`forwardBy`).
+-- is done (`forwardDone`, `forwardIn`); any step (`forwardChange`), and what a call gives (`forwardOutcome`).
 -- Assumes nothing.
 use Prim.Native.Nat.{ℕ}
 use mathlib.Core.Bool.{_&&_}
@@ -26,8 +26,8 @@ use Rattle.requests.specs.Requests.{asked, answerOf}
 use Rattle.requests.specs.declared.Request.{Request}
 use Rattle.requests.specs.declared.Answer.{Answer}
 use Rattle.requests.specs.declared.Answer.the-variants as Answer
-use Rattle.step.specs.Change.{Put, Change, put, nowhere, stepped}
-use Rattle.step.specs.Tests.{forwardTests}
+use Rattle.step.specs.Lent.{Outcome}
+use Rattle.step.specs.Change.{Put, Change, put, nowhere, stepped, steppedTo}
 
 -- "The process becomes past and keeps its contents": with the keys it made, the tuple it used and the locality it made
 abbrev pub pastSlot : Slot → Request → Slot
@@ -68,6 +68,10 @@ forwardDone a x t present r =
       present = presentAfter (a .kind) present (r .place);
     }
 
+-- the step of the process that the request names, in this net, at the node a
+unfoldable pub forwardIn : Action → Net → Request → Change
+forwardIn a n r = forwardDone a (slotWith n (r .key)) (slotWith n (r .used)) (n .present) r
+
 -- document 01's answer: the first of the checks 4 to 11 that does not hold, and done where all do
 unfoldable pub forwardAnswer : Script → Net → Request → Answer
 forwardAnswer s n r = answerOf (refusal (forwardChecks (rolledBy s) (view s n) (asked r)))
@@ -77,8 +81,6 @@ forwardChange s n r =
     stepped (n .present) (forwardAnswer s n r)
     (forwardDone (nodeWith s (slotWith n (r .key) .node)) (slotWith n (r .key)) (slotWith n (r .used)) (n .present) r)
 
--- Whoever holds the net looks up what the request names: the process x at its node a, and what is at the keys used, first and second. With
--- these it is `forwardChange` of the net (`Tested`, `forward-looked`).
-unfoldable pub forwardBy : Action → Slot → Slot → Slot → Slot → Localities → Request → Change
-forwardBy a x t first second present r =
-    stepped present (answerOf (refusal (forwardTests a x t first second present r))) (forwardDone a x t present r)
+-- what a call of code 0 gives
+unfoldable pub forwardOutcome : Script → Net → Request → Outcome
+forwardOutcome s n r = steppedTo n (forwardChange s n r)

@@ -1,7 +1,6 @@
 -- What a step promises, in the words of the theory alone: nothing of how the code finds out shows through.
 -- In order: a refusal changes nothing (`refused-stays`); a forward step is done exactly when its rule allows it (`forward-done`), and gives the
--- net that the rule gives (`forward-gives`); a backward step of an accepted net, by the undoing of its event (`Undoes`, `undo-promised`); what
--- an event made that may be undone was not read (`unread-undoable`).
+-- net that the rule gives (`forward-gives`); a backward step of an accepted net, by the undoing of its event (`Undoes`, `undo-promised`).
 -- Document 01's row of each refusal is in `requests` (`Checks`, `refused-iff`).
 -- Assumes nothing.
 use Prim.Native.Nat.{ℕ, zero, suc, _<_}
@@ -33,7 +32,8 @@ use Rattle.rules.specs.View.{view}
 use Rattle.requests.specs.Checks.{refusal, all-hold, none-fails}
 use Rattle.requests.specs.Answers.{inRange, places, noPlaces, canUndo, forwardChecks, backwardChecks}
 use Rattle.requests.specs.Laws.{forward-can, can-forward, undo-can, can-undo}
-use Rattle.requests.specs.Requests.{asked, isDone, number, answerOf}
+pub use Rattle.requests.specs.Requests.{done-number, done-zero}
+use Rattle.requests.specs.Requests.{asked, isDone, answerOf}
 use Rattle.requests.specs.declared.Request.{Request}
 use Rattle.requests.specs.declared.Answer.{Answer}
 use Rattle.requests.specs.declared.Answer.the-variants as Answer
@@ -41,8 +41,6 @@ use Rattle.step.specs.Change.{Change, refused, stepped, putIn, applied}
 use Rattle.step.specs.Forward.{forwardAnswer, forwardDone, forwardChange}
 use Rattle.step.specs.Backward.{backwardAnswer, backwardDone, undoneAt, backwardChange}
 pub use Rattle.step.specs.Backward.{undoing}
-use Rattle.step.specs.Tests.{noneReads}
-use Rattle.step.specs.TestedBackward.{unread-then}
 use Rattle.step.specs.Steps.{forward-is}
 use Rattle.step.specs.Undone.{undo-is, undo-touched, undo-undone}
 
@@ -52,25 +50,6 @@ use Rattle.step.specs.Undone.{undo-is, undo-touched, undo-undone}
 pub refused-stays : (n : Images.Net) (o : Answer) → applied n (refused (n .present) o) ≡ n
 unfolding applied refused putIn
 refused-stays n o = refl
-
--- an answer that is done is the number 0, and the other way round
-pub done-number : (k : ℕ) → isDone (answerOf k) ≡ eqb k 0
-done-number zero = refl
-done-number (suc zero) = refl
-done-number (suc (suc zero)) = refl
-done-number (suc (suc (suc zero))) = refl
-done-number (suc (suc (suc (suc zero)))) = refl
-done-number (suc (suc (suc (suc (suc zero))))) = refl
-done-number (suc (suc (suc (suc (suc (suc zero)))))) = refl
-done-number (suc (suc (suc (suc (suc (suc (suc zero))))))) = refl
-done-number (suc (suc (suc (suc (suc (suc (suc (suc zero)))))))) = refl
-done-number (suc (suc (suc (suc (suc (suc (suc (suc (suc zero))))))))) = refl
-done-number (suc (suc (suc (suc (suc (suc (suc (suc (suc (suc zero)))))))))) = refl
-done-number (suc (suc (suc (suc (suc (suc (suc (suc (suc (suc (suc zero))))))))))) = refl
-done-number (suc (suc (suc (suc (suc (suc (suc (suc (suc (suc (suc (suc k)))))))))))) = sym (ne-eqb (suc (suc (suc (suc (suc (suc (suc (suc (suc (suc (suc (suc k)))))))))))) 0 (λ e. omega arith))
-
-pub done-zero : (k : ℕ) → isDone (answerOf k) ≡ true → k ≡ 0
-done-zero k h = eqb-true k 0 (sym (done-number k) ∙ h)
 
 -- ---- a forward step
 
@@ -151,8 +130,3 @@ module _ (s : Script) (w : ShapedScript s) (in-form : scriptInRange s ≡ true) 
         touched-word = λ u. ap (λ (c : Change). c .touched .0) (changed u) ∙ undo-touched s w in-form n whole ok k u;
         stays = λ h. stays (sym answered ∙ h);
       }
-
-  -- an event that may be undone made nothing that was read
-  pub unread-undoable : Undoable (view s n) (k .0) → (noneReads s n (slotWith n k .first) && noneReads s n (slotWith n k .second)) ≡ true
-  unread-undoable u =
-      unread-then s (w .nodes) n r (u .is-past) (can-undo (rolledBy s) refl (view s n) ok (asked r) u)

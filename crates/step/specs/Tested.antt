@@ -1,6 +1,6 @@
 -- The checks that the code makes on slots are the checks of `requests`, of the net that the slots are from.
 -- In order: a node of a script, by its number (`node-is`, `no-node`); check by check, of a forward step (`forward-tests`); the answer of a
--- forward step from the slots (`forward-answered`), and what it changes (`forward-looked`).
+-- forward step from the slots (`forward-answered`).
 -- Assumes nothing.
 use Prim.Native.Nat.{ℕ}
 use mathlib.Core.Path.{_≡_, refl, ap, sym, _∙_}
@@ -10,10 +10,11 @@ use native.Mathlib.Omega.{arith}
 use lib.Dec.{eqb, ltb, leb}
 use lib.ListN.{length, List·getD-eq-default}
 use borrow.Author.Tests.{ltb-false}
-use Rattle.laws.specs.Choice.{cases, _⇒_, and-right}
+use Rattle.laws.specs.Choice.{cases, _⇒_, and-right, or-left, or-right}
 use Rattle.laws.specs.Sets.{member}
 use Rattle.names.specs.Names.{nodeCount, localityCount, none, locality, isNode}
 use Rattle.names.specs.declared.Node.{Node}
+use Rattle.names.specs.declared.Locality.{Locality}
 use Rattle.images.specs.Script.{action0, actionAt}
 use Rattle.images.specs.Net.{slotWith, isFree}
 use Rattle.images.specs.Read.{nodeWith}
@@ -26,6 +27,7 @@ use Rattle.nets.specs.Net as N
 use Rattle.nets.specs.Net.{isLive}
 use Rattle.products.specs.Products
 use Rattle.products.specs.Products.{isStep, targetBy, targetThere, readyBy, fits}
+use Rattle.products.specs.Acting.{actsAt, acts-there, acts-target}
 use Rattle.rules.specs.Instance.{actOf, makeable, rulesOf}
 use Rattle.rules.specs.Acts.{uses-is, acts-is, aims-is, there-is, newloc-is}
 use Rattle.rules.specs.Roots.{rolledBy}
@@ -37,9 +39,8 @@ use Rattle.requests.specs.Answers.{placesOf, forwardChecks}
 use Rattle.requests.specs.Requests.{asked, answerOf}
 use Rattle.requests.specs.declared.Request.{Request}
 use Rattle.requests.specs.declared.Answer.{Answer}
-use Rattle.step.specs.Change.{stepped}
 use Rattle.step.specs.Tests.{placesBy, tupleThere, templateMet, secondFresh, placeFresh, namesFresh, forwardTests}
-use Rattle.step.specs.Forward.{forwardAnswer, forwardDone, forwardChange, forwardBy}
+use Rattle.step.specs.Forward.{forwardAnswer}
 
 -- ---- a node, by its number
 
@@ -96,13 +97,26 @@ module _ (s : Script) (n : Images.Net) (r : Request) where
     act-is =
         ap (λ (z : N.Slot (rulesOf s)). rulesOf s .act (z .body)) (view-with s n (r .key)) ∙ ap (λ (y : Action). actOf (y .kind)) there
 
-    target-check : targetThere (b .kind) (n .present) (locality (targetBy b (x .contents))) ≡ (aims (rulesOf s .act (W .slot (r .key .0) .body)) ⇒ W .present (rulesOf s .target (W .slot (r .key .0) .body)))
+    at-target : targetThere (b .kind) (n .present) (locality (targetBy b (x .contents))) ≡ (aims (rulesOf s .act (W .slot (r .key .0) .body)) ⇒ W .present (rulesOf s .target (W .slot (r .key .0) .body)))
     unfolding targetThere
-    target-check = rw (act-is, aims-is (b .kind), view-with s n (r .key), there, view-present s n (targetBy b (x .contents)))
+    at-target = rw (act-is, aims-is (b .kind), view-with s n (r .key), there, view-present s n (targetBy b (x .contents)))
 
-    tuple-check : tupleThere (b .kind) t (locality (targetBy b (x .contents))) ≡ (uses (rulesOf s .act (W .slot (r .key .0) .body)) ⇒ A.tupleThere (rolledBy s) W (asked r))
+    target-check : targetThere (b .kind) (n .present) (actsAt b (x .locality) (x .contents)) ≡ (aims (rulesOf s .act (W .slot (r .key .0) .body)) ⇒ W .present (rulesOf s .target (W .slot (r .key .0) .body)))
+    target-check = acts-there b (x .locality) (x .contents) (n .present) ∙ at-target
+
+    acts-tuple : tupleThere (b .kind) t (actsAt b (x .locality) (x .contents)) ≡ tupleThere (b .kind) t (locality (targetBy b (x .contents)))
+    unfolding tupleThere
+    acts-tuple =
+        cases (Products.meetsTuple (b .kind))
+        (λ m. ap (λ (l : Locality). tupleThere (b .kind) t l) (acts-target b (x .locality) (x .contents) (or-right (Products.isOut (b .kind)) _ (or-left (Products.meetsTuple (b .kind)) _ m))))
+        (λ m. rw m)
+
+    at-tuple : tupleThere (b .kind) t (locality (targetBy b (x .contents))) ≡ (uses (rulesOf s .act (W .slot (r .key .0) .body)) ⇒ A.tupleThere (rolledBy s) W (asked r))
     unfolding tupleThere A.tupleThere
-    tuple-check = rw (act-is, uses-is (b .kind), view-with s n (r .key), view-with s n (r .used), there, tuple-is (t .kind))
+    at-tuple = rw (act-is, uses-is (b .kind), view-with s n (r .key), view-with s n (r .used), there, tuple-is (t .kind))
+
+    tuple-check : tupleThere (b .kind) t (actsAt b (x .locality) (x .contents)) ≡ (uses (rulesOf s .act (W .slot (r .key .0) .body)) ⇒ A.tupleThere (rolledBy s) W (asked r))
+    tuple-check = acts-tuple ∙ at-tuple
 
     match-check : templateMet b (x .contents) t ≡ (uses (rulesOf s .act (W .slot (r .key .0) .body)) ⇒ rulesOf s .fits (W .slot (r .key .0) .body) (W .slot (r .used .0) .body))
     unfolding templateMet fits
@@ -158,7 +172,3 @@ module _ (s : Script) (nodes : length (s .nodes) ≡ nodeCount) (n : Images.Net)
   pub forward-answered : answerOf (refusal (forwardTests (a s n r) (x s n r) (t s n r) (slotWith n (r .first)) (slotWith n (r .second)) (n .present) r)) ≡ forwardAnswer s n r
   unfolding forwardAnswer
   forward-answered = ap answerOf forward-tests
-
-  pub forward-looked : forwardBy (nodeWith s (slotWith n (r .key) .node)) (slotWith n (r .key)) (slotWith n (r .used)) (slotWith n (r .first)) (slotWith n (r .second)) (n .present) r ≡ forwardChange s n r
-  unfolding forwardBy forwardChange
-  forward-looked = ap (λ (o : Answer). stepped (n .present) o (forwardDone (a s n r) (x s n r) (t s n r) (n .present) r)) forward-answered

@@ -1,7 +1,6 @@
 -- The checks as the code makes them, on the slots that a request names. Nothing here must be believed: `Tested` proves them to be the checks
 -- of `requests`, of the net that the slots are from.
--- In order: `checked`; each test of a forward step, and these in their order (`forwardTests`); whether an event may be undone (`canUndo`), and the
--- checks of a backward step (`backwardTests`); who read either of two keys (`readsEither`); what an answer of a check says (`holds-true`,
+-- In order: `checked`; each test of a forward step, and these in their order (`forwardTests`); what an answer of a check says (`holds-true`,
 -- `fails-false`).
 -- Assumes nothing.
 use Prim.Native.Nat.{ℕ}
@@ -11,26 +10,20 @@ use mathlib.Core.List.{List, [], _∷_}
 use native.Mathlib.Omega.{arith}
 use lib.Dec.{eqb}
 use Rattle.laws.specs.Choice.{pick, _⇒_}
-use Rattle.laws.specs.Checks.{all}
-use Rattle.names.specs.Names.{keyCount, locality, isKey}
-use Rattle.names.specs.declared.Key.{Key}
 use Rattle.names.specs.Localities.{holds}
 use Rattle.names.specs.declared.Locality.{Locality}
 use Rattle.names.specs.declared.Localities.{Localities}
-use Rattle.images.specs.Net.{isFree, slotAt}
-use Rattle.images.specs.Read.{nodeWith}
+use Rattle.images.specs.Net.{isFree}
 use Rattle.images.specs.declared.Action.{Action}
 use Rattle.images.specs.declared.Datum.{Datum}
-use Rattle.images.specs.declared.Script.{Script}
-use Rattle.images.specs.declared.Net.{Net}
 use Rattle.images.specs.declared.Slot.{Slot}
 use Rattle.matching.specs.Match.{meets}
-use Rattle.products.specs.Products.{isStep, isRead, isNewloc, meetsTuple, makesSecond, targetBy, targetThere, readyBy}
+use Rattle.products.specs.Products.{isStep, isNewloc, meetsTuple, makesSecond, targetThere, readyBy}
+use Rattle.products.specs.Acting.{actsAt}
 use Rattle.rules.specs.Instance.{makeable}
 use Rattle.requests.specs.Checks as C
 use Rattle.requests.specs.Checks.{check}
-use Rattle.requests.specs.Answers.{asNeeded, noPlaces}
-use Rattle.requests.specs.Requests.{asked}
+use Rattle.requests.specs.Answers.{asNeeded}
 use Rattle.requests.specs.declared.Request.{Request}
 use Rattle.step.specs.declared.Check.{Check}
 use Rattle.step.specs.declared.Check.the-variants as Check
@@ -66,44 +59,9 @@ namesFresh kind one two present r = one && (secondFresh kind two r && placeFresh
 unfoldable pub forwardTests : Action → Slot → Slot → Slot → Slot → Localities → Request → List C.Check
 forwardTests a x t first second present r =
     check 4 (eqb (x .kind) 1) ∷ check 5 (isStep (a .kind)) ∷ check 6 (placesBy (a .kind) r) ∷ check 7 (readyBy a (x .contents)) ∷
-    check 8 (targetThere (a .kind) present (locality (targetBy a (x .contents)))) ∷
-    check 9 (tupleThere (a .kind) t (locality (targetBy a (x .contents)))) ∷ check 10 (templateMet a (x .contents) t) ∷
+    check 8 (targetThere (a .kind) present (actsAt a (x .locality) (x .contents))) ∷
+    check 9 (tupleThere (a .kind) t (actsAt a (x .locality) (x .contents))) ∷ check 10 (templateMet a (x .contents) t) ∷
     check 11 (namesFresh (a .kind) (isFree first) (isFree second) present r) ∷ []
-
--- ---- 12: "A past process may be undone when all keys it made are live, a tuple it made is in no past read, and, for a past read, its tuple
--- is live."
-unfoldable pub madeLive : Key → Slot → Bool
-madeLive k x = isKey k ⇒ (eqb (x .kind) 1 || eqb (x .kind) 3)
-
-unfoldable pub readLive : ℕ → Key → Slot → Bool
-readLive kind used t = isRead kind ⇒ (isKey used ⇒ eqb (t .kind) 3)
-
--- the slot holds a past read of the key
-unfoldable pub readsKey : Script → Slot → Key → Bool
-readsKey s x k = eqb (x .kind) 2 && (eqb (x .used .0) (k .0) && isRead (nodeWith s (x .node) .kind))
-
--- no slot of the net holds a past read of the key
-unfoldable pub noneReads : Script → Net → Key → Bool
-noneReads s n k = isKey k ⇒ all keyCount (λ f. not (readsKey s (slotAt n f) k))
-
--- the event x at the node a; what stands at the keys that it made and used; whether no past read used what it made
-unfoldable pub canUndo : Action → Slot → Slot → Slot → Slot → Bool → Bool
-canUndo a x first second t unread =
-    madeLive (x .first) first && (madeLive (x .second) second && (readLive (a .kind) (x .used) t && unread))
-
--- checks 4, 6 and 12, of the event x at the node a
-unfoldable pub backwardTests : Action → Slot → Slot → Slot → Slot → Bool → Request → List C.Check
-backwardTests a x first second t unread r =
-    check 4 (eqb (x .kind) 2) ∷ check 6 (noPlaces (asked r)) ∷ check 12 (canUndo a x first second t unread) ∷ []
-
--- ---- past reads of either of two keys, in one pass over the slots
-
--- the key is the one or the other
-unfoldable pub isEither : Key → Key → Key → Bool
-isEither k one two = isKey k && (eqb (k .0) (one .0) || eqb (k .0) (two .0))
-
-unfoldable pub readsEither : Script → Slot → Key → Key → Bool
-readsEither s x one two = eqb (x .kind) 2 && (isEither (x .used) one two && isRead (nodeWith s (x .node) .kind))
 
 -- ---- what an answer of a check says
 

@@ -48,7 +48,7 @@ use Rattle.rules.specs.Acts.{take-is, newloc-is, there-is}
 use Rattle.rules.specs.View.{view, slotView, view-with, view-present, free-view, kindAs}
 use Rattle.step.specs.Change.{Change, applied}
 use Rattle.step.specs.Tested.{node-is, no-node}
-use Rattle.step.specs.Backward.{backwardOther, presentBefore, freedAt, backwardDone, undoneAt}
+use Rattle.step.specs.Backward.{backPut, backwardOther, presentBefore, freedAt, backwardDone, undoneAt}
 use Rattle.step.specs.Written.{isAt, applied-slot, applied-present, parted-view, eqb-swap}
 
 module _ (s : Script) (w : ShapedScript s) (in-form : scriptInRange s ≡ true) (n : Images.Net) (whole : length (n .slots) ≡ keyCount)
@@ -142,15 +142,15 @@ module _ (s : Script) (w : ShapedScript s) (in-form : scriptInRange s ≡ true) 
 
   -- the third slot: that of the second key, or the tuple that was taken
   other-second : (j : ℕ) → isKey (x .second) ≡ true → isAt (c .other) j ≡ eqb j (x .second .0)
-  unfolding backwardDone backwardOther
+  unfolding backwardDone backPut
   other-second j h = rw (h, h)
 
   other-tuple : (j : ℕ) → isKey (x .second) ≡ false → Products.isIn (a .kind) ≡ true → isAt (c .other) j ≡ (isKey (x .used) && eqb j (x .used .0))
-  unfolding backwardDone backwardOther
+  unfolding backwardDone backPut
   other-tuple j h i = rw (h, i)
 
   other-none : (j : ℕ) → isKey (x .second) ≡ false → Products.isIn (a .kind) ≡ false → isAt (c .other) j ≡ false
-  unfolding backwardDone backwardOther
+  unfolding backwardDone backPut
   other-none j h i = rw (h, i)
 
   -- where the event is an in
@@ -177,7 +177,7 @@ module _ (s : Script) (w : ShapedScript s) (in-form : scriptInRange s ≡ true) 
   -- ---- slot by slot
 
   undone : (j : ℕ) → B.Way (lawfulOf s w in-form) W ok e u j → view s (applied n c) .slot j ≡ undo W e .slot j
-  unfolding backwardDone backwardOther kindAs
+  unfolding backwardDone backPut kindAs
   undone j (B.made-free m q) =
       ⊎-elim
       (λ (z : event .first ≡ j).

@@ -101,27 +101,30 @@ pub fn in_the_way(script: &[u8], net: &[u8], k: Key) -> Way
     ensures { λ r. ⌜ r ≡ wayOf (scriptOf (now (script .entry))) (netOf (now (net .entry))) k ⌝ }
 {
     let x = slot_in(net, k);
-    if kind_in(net, x.first) == Slot::PAST {
-        return Way::Behind(x.first);
+    let first = x.first;
+    if kind_in(net, first) == Slot::PAST {
+        return Way::Behind(first);
     }
-    if x.second.is_key() {
-        let kind = kind_in(net, x.second);
+    let second = x.second;
+    if second.is_key() {
+        let kind = kind_in(net, second);
         if kind == Slot::LIVE {
             return Way::Clear;
         }
         if kind == Slot::PAST {
-            return Way::Behind(x.second);
+            return Way::Behind(second);
         }
-        return user_of(net, x.second);
+        return user_of(net, second);
     }
     let a = node_in(script, x.node);
     if a.kind != Action::READ {
         return Way::Clear;
     }
-    if kind_in(net, x.used) != Slot::CONSUMED {
+    let used = x.used;
+    if kind_in(net, used) != Slot::CONSUMED {
         return Way::Clear;
     }
-    taker_of(script, net, x.used)
+    taker_of(script, net, used)
 }
 
 // ---- what the event made is taken back

@@ -1,7 +1,9 @@
 // A forward step: the checks in their order, and what the rule makes, written where it belongs.
 ghost use mathlib.Core.Path.{_≡_};
 ghost use mathlib.Core.Bool.{true};
+ghost use lib.ListN.{length};
 ghost use Rattle.images.specs.Net.{slotWith};
+ghost use Rattle.images.specs.Script.{fieldCount};
 ghost use Rattle.images.specs.InPlace.{slotPut, presentPut};
 ghost use Rattle.images.specs.Read.{actionOf, scriptOf, netOf};
 ghost use Rattle.images.specs.Sizes.{NodeSized, Sized};
@@ -12,7 +14,7 @@ ghost use Rattle.step.specs.Forward.{pastSlot, presentAfter, forwardIn, 
 ghost use Rattle.step.specs.InPlace.{putBytes, changeBytes};
 ghost use Rattle.step.specs.Allowed.{allowedBy};
 ghost use Rattle.step.specs.declared.forward.Allowed.the-variants as Allowed;
-ghost use Rattle.step.specs.Next.{referPut, boundPlace, nextPut, boundNext, secondPut, takenPut};
+ghost use Rattle.step.specs.Next.{referPut, boundPlace, nextPut, boundNext, tupleOf, secondPut, takenPut};
 use super::Check;
 use super::as_new;
 use super::checks::acts;
@@ -67,7 +69,7 @@ pub enum Allowed {
 }
 
 // Checks 4 to 11, of the process with the request's key at this node.
-fn allowed(node: &[u8], net: &[u8], r: Request) -> Allowed
+fn forward_found(node: &[u8], net: &[u8], r: Request) -> Allowed
     requires { ⌜ NodeSized (now node) × Sized (now net) × (inRange (asked r) ≡ true) ⌝ }
     ensures { λ o. ⌜ o ≡ allowedBy (actionOf (now (node .entry))) (netOf (now (net .entry))) r ⌝ }
 {
@@ -311,7 +313,7 @@ pub fn forward(script: &[u8], net: &mut [u8], r: Request) -> Told
     let x = slot_in(net, r.key);
     let i = script_image::start(x.node);
     let node = &script[i..i + NODE_SIZE];
-    let found = allowed(node, net, r);
+    let found = forward_found(node, net, r);
     match found {
         Allowed::Refused(answer) => refused(answer),
         Allowed::At(at) => {

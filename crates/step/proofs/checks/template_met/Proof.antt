@@ -1,35 +1,78 @@
--- `template_met` meets its contract. Assumes nothing.
-use mathlib.Core.Path.{_≡_, _∙_, ap, sym}
-use mathlib.Core.Bool.{Bool}
-use borrow.Author.Tests.{not-true, not-false}
-use Rattle.step.specs.Tests.{checked, templateMet}
 use borrow.Author.Needs.{needs}
 use Rattle.step.proofs.checks.template_met.Statement.{statement}
 use Rattle.step.proofs.checks.template_met.Tie as tie
 use Rattle.step.proofs.checks.template_met.Reads as reads
 use Rattle.step.proofs.checks.template_met.Lts as lts
-use Rattle.matching.proofs.template_meets.Reads as template-meets-reads
+use Rattle.images.proofs.net_image.start.Reads as start-reads
+use Rattle.images.proofs.script_image.action_of.Reads as action-of-reads
+use Rattle.matching.proofs.match_tuple.Reads as match-tuple-reads
 use Rattle.products.proofs.meets_tuple.Reads as meets-tuple-reads
-use Rattle.step.proofs.checks.told.Reads as told-reads
 
+-- src/checks.rt:148:9
+action-of-requires : tie.Need-action-of-requires
+action-of-requires c κs = search needs
+
+-- src/checks.rt:149:9
 meets-tuple-requires : tie.Need-meets-tuple-requires
 meets-tuple-requires c κs = search needs
 
+-- src/checks.rt:150:9
 returns : tie.Need-returns
-unfolding checked templateMet
-returns c = rw (sym (c .before .meets-tuple .ensures) ∙ not-true _ (c .if1 .taken))
+returns c = ?
 
-template-meets-requires : tie.Need-template-meets-requires
-template-meets-requires c κs = search needs
+-- src/checks.rt:152:9
+start-requires : tie.Need-start-requires
+start-requires c κs = search needs
 
-told-requires : tie.Need-told-requires
-told-requires c κs = search needs
+-- src/checks.rt:153:48
+add-match-tuple : tie.Need-add-match-tuple
+add-match-tuple c = search needs
 
+-- src/checks.rt:153:39
+sub-match-tuple : tie.Need-sub-match-tuple
+sub-match-tuple c = search needs
+
+-- src/checks.rt:153:39
+part-match-tuple-start : tie.Need-part-match-tuple-start
+part-match-tuple-start c = search needs
+
+-- src/checks.rt:153:39
+part-match-tuple-end : tie.Need-part-match-tuple-end
+part-match-tuple-end c = ?
+
+-- src/checks.rt:153:9
+match-tuple-requires : tie.Need-match-tuple-requires
+match-tuple-requires c κs = search needs
+
+enum-told : tie.Need-enum-told
+enum-told c = search needs
+
+-- src/checks.rt:155:9
+enum-told-2 : tie.Need-enum-told-2
+enum-told-2 c = search needs
+
+-- src/checks.rt:155:9
 returns-2 : tie.Need-returns-2
-unfolding templateMet
-returns-2 c = rw (sym (c .before .before .before .before .meets-tuple .ensures) ∙ not-false _ (c .before .before .before .if1 .left)) (c .told .ensures ∙ ap (λ (b : Bool). checked b) (c .before .template-meets .ensures))
+returns-2 c = ?
+
+-- src/checks.rt:143:1
+returns-3 : tie.Need-returns-3
+returns-3 c = ?
 
 pub template-met-spec : {M : Type 1} → statement M
 template-met-spec =
     tie.close
-    (tie.spec meets-tuple-requires returns template-meets-requires told-requires returns-2)
+    (tie.spec
+    action-of-requires
+    meets-tuple-requires
+    returns
+    start-requires
+    add-match-tuple
+    sub-match-tuple
+    part-match-tuple-start
+    part-match-tuple-end
+    match-tuple-requires
+    enum-told
+    enum-told-2
+    returns-2
+    returns-3)
