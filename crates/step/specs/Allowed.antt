@@ -9,12 +9,12 @@ use mathlib.Core.Bool.{Bool, true, false, _&&_, not, true≢false}
 use mathlib.Core.List.{List}
 use native.Mathlib.Omega.{arith}
 use lib.Dec.{eqb, ltb, leb}
-use borrow.Author.Tests.{eqb-true, eqb-false, eq-eqb, ltb-true, not-true}
+use borrow.Author.Tests.{eqb-true, eqb-false, eq-eqb, lt-ltb, ltb-true, not-true}
 use Rattle.laws.specs.Choice.{pick, cases, clash, and-left, and-right, _⇒_, told}
 use Rattle.names.specs.Names.{keyCount, none, isKey, belowOrNone}
 use Rattle.names.specs.declared.Key.{Key}
 use Rattle.names.specs.declared.Locality.{Locality}
-use Rattle.images.specs.Net.{slotWith, isFree}
+use Rattle.images.specs.Net.{slotAt, slotWith, isFree}
 use Rattle.images.specs.declared.Action.{Action}
 use Rattle.images.specs.declared.Slot.{Slot}
 use Rattle.images.specs.declared.Net.{Net}
@@ -146,3 +146,7 @@ used-key kind r range given m =
 pub in-range-key : (r : Request) → inRange (asked r) ≡ true → r .key .0 < keyCount
 unfolding inRange
 in-range-key r range = ltb-true (r .key .0) keyCount (and-left (ltb (r .key .0) keyCount) _ (and-right (leb (r .code) 3) _ range))
+
+-- a key is looked up where it is
+pub slot-with : (n : Net) (k : Key) → k .0 < keyCount → slotAt n (k .0) ≡ slotWith n k
+slot-with n k l = rw (lt-ltb (k .0) keyCount l) refl

@@ -21,8 +21,6 @@ use Rattle.products.specs.Body.{bodyOf, liveProcess}
 use Rattle.products.specs.Products.{continuedBy}
 use Rattle.requests.specs.declared.Request.{Request}
 use Rattle.step.specs.Change.{Put, Change, nowhere, putIn, applied}
-
-
 use Rattle.step.specs.Written.{put-length}
 
 -- ---- a change

@@ -14,5 +14,7 @@ pub mod Written
 pub mod InPlace
 pub mod Stepped
 pub mod Next
+pub mod Forwarded
 pub mod Steps
 pub mod Undone
+pub mod Back

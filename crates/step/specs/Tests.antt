@@ -1,23 +1,28 @@
 -- The checks as the code makes them, on the slots that a request names. Nothing here must be believed: `Tested` proves them to be the checks
 -- of `requests`, of the net that the slots are from.
 -- In order: `checked`; each test of a forward step, and these in their order (`forwardTests`); what an answer of a check says (`holds-true`,
--- `fails-false`).
+-- `fails-false`); the part that is lent for a tuple (`slot-match`).
 -- Assumes nothing.
-use Prim.Native.Nat.{ℕ}
+use Prim.Native.Nat.{ℕ, _+_, _-_, _*_}
 use mathlib.Core.Bool.{Bool, true, false, _&&_, _||_, not}
-use mathlib.Core.Path.{_≡_, refl, ap}
+use mathlib.Core.Path.{_≡_, refl, ap, sym, _∙_}
 use mathlib.Core.List.{List, [], _∷_}
 use native.Mathlib.Omega.{arith}
 use lib.Dec.{eqb}
+use lib.ListN.{take, drop}
 use Rattle.laws.specs.Choice.{pick, _⇒_}
 use Rattle.names.specs.Localities.{holds}
 use Rattle.names.specs.declared.Locality.{Locality}
 use Rattle.names.specs.declared.Localities.{Localities}
-use Rattle.images.specs.Net.{isFree}
+use Rattle.names.specs.Names.{isKey}
+use Rattle.names.specs.declared.Key.{Key}
+use Rattle.images.specs.Net.{isFree, slotWith}
+use Rattle.images.specs.Read.{slotOf, netOf}
+use Rattle.images.specs.InPlace.{slot-lent}
 use Rattle.images.specs.declared.Action.{Action}
 use Rattle.images.specs.declared.Datum.{Datum}
 use Rattle.images.specs.declared.Slot.{Slot}
-use Rattle.matching.specs.Match.{meets}
+use Rattle.matching.specs.Match.{meets, matchOf}
 use Rattle.products.specs.Products.{isStep, isNewloc, meetsTuple, makesSecond, targetThere, readyBy}
 use Rattle.products.specs.Acting.{actsAt}
 use Rattle.rules.specs.Instance.{makeable}
@@ -84,3 +89,10 @@ fails-false true e = absurd (apart (ap (λ (k : Check). holdsNumber k) e))
   where
     apart : _≡_ {A = ℕ} 1 0 → ⊥
     apart z = omega arith
+
+-- ---- the tuple's part is its slot
+
+pub slot-match : (vars : List Datum) (a : Action) (b : List ℕ) (k : Key) → isKey k ≡ true → (at : ℕ) → at ≡ 16 + 56 * k .0
+    → matchOf vars a (slotOf (take (at + 56 - at) (drop at b))) ≡ matchOf vars a (slotWith (netOf b) k)
+slot-match vars a b k h at is =
+    ap (matchOf vars a) (ap (λ (i : ℕ). slotOf (take (i + 56 - i) (drop i b))) is ∙ sym (slot-lent b k h))

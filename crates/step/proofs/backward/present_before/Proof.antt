@@ -1,3 +1,7 @@
+-- `present_before` meets its contract. Assumes nothing.
+use mathlib.Core.Path.{_∙_, sym}
+use borrow.Author.Tests.{eq-eqb, ne-eqb, ltb-true, not-true, not-false}
+use Rattle.step.specs.Backward.{presentBefore}
 use borrow.Author.Needs.{needs}
 use Rattle.step.proofs.backward.present_before.Statement.{statement}
 use Rattle.step.proofs.backward.present_before.Tie as tie
@@ -6,25 +10,23 @@ use Rattle.step.proofs.backward.present_before.Lts as lts
 use Rattle.names.proofs.Localities.without.Reads as without-reads
 use Rattle.names.proofs.Locality.is_locality.Reads as is-locality-reads
 
--- src/backward.rt:136:9
 returns : tie.Need-returns
-returns c = ?
+unfolding presentBefore
+returns c = rw (ne-eqb _ _ (c .if1 .taken))
 
--- src/backward.rt:138:9
 is-locality-requires : tie.Need-is-locality-requires
 is-locality-requires c κs = search needs
 
--- src/backward.rt:139:9
 returns-2 : tie.Need-returns-2
-returns-2 c = ?
+unfolding presentBefore
+returns-2 c = rw (eq-eqb _ _ (c .before .before .if1 .left), sym (c .before .is-locality .ensures) ∙ not-true _ (c .if2 .taken))
 
--- src/backward.rt:141:5
 without-requires : tie.Need-without-requires
-without-requires c κs = ?
+without-requires c κs = ltb-true _ 32 (sym (c .before .is-locality .ensures) ∙ not-false _ (c .if2 .left))
 
--- src/backward.rt:132:1
 returns-3 : tie.Need-returns-3
-returns-3 c = ?
+unfolding presentBefore
+returns-3 c = rw (eq-eqb _ _ (c .before .before .before .if1 .left), sym (c .before .before .is-locality .ensures) ∙ not-false _ (c .before .if2 .left), c .without .ensures)
 
 pub present-before-spec : {M : Type 1} → statement M
 present-before-spec =

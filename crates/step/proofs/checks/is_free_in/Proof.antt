@@ -1,3 +1,12 @@
+-- `is_free_in` meets its contract. Assumes nothing.
+use Prim.Native.Nat.{ℕ, _+_, _*_, _<_, _≤_}
+use mathlib.Core.Path.{_≡_, refl, ap, ap₂, sym, _∙_, subst}
+use mathlib.Core.Bool.{Bool, true, false}
+use mathlib.Core.List.{List}
+use native.Mathlib.Omega.{arith}
+use denote.Ref.{now}
+use lib.Dec.{eqb, ltb}
+use borrow.Author.Tests.{eq-eqb, ne-eqb, lt-ltb, le-ltb, ltb-true, not-true, not-false}
 use borrow.Author.Needs.{needs}
 use Rattle.step.proofs.checks.is_free_in.Statement.{statement}
 use Rattle.step.proofs.checks.is_free_in.Tie as tie
@@ -5,17 +14,14 @@ use Rattle.step.proofs.checks.is_free_in.Reads as reads
 use Rattle.step.proofs.checks.is_free_in.Lts as lts
 use Rattle.images.proofs.net_image.kind_in.Reads as kind-in-reads
 
--- src/checks.rt:192:9
 kind-in-requires : tie.Need-kind-in-requires
 kind-in-requires c κs = search needs
 
--- src/checks.rt:194:9
 returns : tie.Need-returns
-returns c = ?
+returns c = rw (sym (ap (λ (k : ℕ). eqb k 0) (c .before .kind-in .ensures)) ∙ eq-eqb _ 0 (c .if1 .taken))
 
--- src/checks.rt:188:1
 returns-2 : tie.Need-returns-2
-returns-2 c = ?
+returns-2 c = rw (sym (ap (λ (k : ℕ). eqb k 0) (c .before .kind-in .ensures)) ∙ ne-eqb _ 0 (c .if1 .left)) (ap (λ (k : ℕ). ltb 4 k) (c .before .kind-in .ensures))
 
 pub is-free-in-spec : {M : Type 1} → statement M
 is-free-in-spec = tie.close (tie.spec kind-in-requires returns returns-2)

@@ -1,3 +1,14 @@
+-- `names_fresh` meets its contract. Assumes nothing.
+use Prim.Native.Nat.{ℕ, _+_, _*_, _<_, _≤_}
+use mathlib.Core.Path.{_≡_, refl, ap, ap₂, sym, _∙_, subst}
+use mathlib.Core.Bool.{Bool, true, false}
+use mathlib.Core.List.{List}
+use native.Mathlib.Omega.{arith}
+use denote.Ref.{now}
+use lib.Dec.{eqb, ltb}
+use borrow.Author.Tests.{eq-eqb, ne-eqb, lt-ltb, le-ltb, ltb-true, not-true, not-false}
+use Rattle.names.specs.declared.Localities.{Localities}
+use Rattle.step.specs.Tests.{checked, namesFresh, secondFresh, placeFresh}
 use borrow.Author.Needs.{needs}
 use Rattle.step.proofs.checks.names_fresh.Statement.{statement}
 use Rattle.step.proofs.checks.names_fresh.Tie as tie
@@ -9,41 +20,37 @@ use Rattle.step.proofs.checks.place_fresh.Reads as place-fresh-reads
 use Rattle.step.proofs.checks.second_fresh.Reads as second-fresh-reads
 use Rattle.step.proofs.checks.told.Reads as told-reads
 
--- src/checks.rt:204:9
 is-free-in-requires : tie.Need-is-free-in-requires
 is-free-in-requires c κs = search needs
 
--- src/checks.rt:205:9
 returns : tie.Need-returns
-returns c = ?
+unfolding checked namesFresh
+returns c = rw (sym (c .before .is-free-in .ensures) ∙ not-true _ (c .if1 .taken))
 
--- src/checks.rt:207:9
 is-free-in-requires-2 : tie.Need-is-free-in-requires-2
 is-free-in-requires-2 c κs = search needs
 
--- src/checks.rt:208:9
 second-fresh-requires : tie.Need-second-fresh-requires
 second-fresh-requires c κs = search needs
 
--- src/checks.rt:209:9
 returns-2 : tie.Need-returns-2
-returns-2 c = ?
+unfolding checked namesFresh
+returns-2 c = rw (sym (c .before .before .before .before .is-free-in .ensures) ∙ not-false _ (c .before .before .before .if1 .left), sym (ap (λ (b : Bool). secondFresh (c .before .before .before .before .before .before .args .kind) b (c .before .before .before .before .before .before .args .r)) (c .before .before .is-free-in2 .ensures)) ∙ sym (c .before .second-fresh .ensures) ∙ not-true _ (c .if2 .taken))
 
--- src/checks.rt:211:9
 present-in-requires : tie.Need-present-in-requires
 present-in-requires c κs = search needs
 
--- src/checks.rt:212:9
 place-fresh-requires : tie.Need-place-fresh-requires
 place-fresh-requires c κs = search needs
 
--- src/checks.rt:213:5
 told-requires : tie.Need-told-requires
 told-requires c κs = search needs
 
--- src/checks.rt:200:1
 returns-3 : tie.Need-returns-3
-returns-3 c = ?
+unfolding namesFresh
+returns-3 c =
+    rw (sym (c .before .before .before .before .before .before .before .is-free-in .ensures) ∙ not-false _ (c .before .before .before .before .before .before .if1 .left), sym (ap (λ (b : Bool). secondFresh (c .before .before .before .before .before .before .before .before .before .args .kind) b (c .before .before .before .before .before .before .before .before .before .args .r)) (c .before .before .before .before .before .is-free-in2 .ensures)) ∙ sym (c .before .before .before .before .second-fresh .ensures) ∙ not-false _ (c .before .before .before .if2 .left))
+    (c .told .ensures ∙ ap (λ (b : Bool). checked b) (c .before .place-fresh .ensures ∙ ap (λ (l : Localities). placeFresh (c .before .before .before .before .before .before .before .before .before .args .kind) l (c .before .before .before .before .before .before .before .before .before .args .r .place)) (c .before .before .present-in .ensures)))
 
 pub names-fresh-spec : {M : Type 1} → statement M
 names-fresh-spec =

@@ -1,3 +1,26 @@
+-- `forward_found` meets its contract. Assumes nothing.
+use Prim.Native.Nat.{ℕ, _+_, _*_, _<_, _≤_}
+use mathlib.Core.Path.{_≡_, refl, ap, ap₂, sym, _∙_, subst}
+use mathlib.Core.Bool.{Bool, true, false}
+use mathlib.Core.List.{List}
+use native.Mathlib.Omega.{arith}
+use denote.Ref.{now}
+use lib.Dec.{eqb, ltb}
+use borrow.Author.Tests.{eq-eqb, ne-eqb, lt-ltb, le-ltb, ltb-true, not-true, not-false}
+use Rattle.names.specs.declared.Locality.{Locality}
+use Rattle.names.specs.declared.Localities.{Localities}
+use Rattle.names.specs.declared.Variable.{Variable}
+use Rattle.images.specs.Net.{slotWith}
+use Rattle.images.specs.Read.{netOf, actionOf}
+use Rattle.images.specs.InPlace.{slotPut, presentPut}
+use Rattle.images.specs.declared.Action.{Action}
+use Rattle.images.specs.declared.Slot.{Slot}
+use Rattle.images.specs.Net.{isFree}
+use Rattle.products.specs.Products.{isStep, meetsTuple, readyBy, targetThere}
+use Rattle.products.specs.Acting.{actsAt, ready-acts, unset-false}
+use Rattle.requests.specs.Checks.{refusal}
+use Rattle.step.specs.Tests.{placesBy, tupleThere, templateMet, namesFresh, forwardTests, holds-true, fails-false}
+use Rattle.step.specs.Allowed.{forwardFound, refused-by, allowed-at, used-key, in-range-key, slot-with}
 use borrow.Author.Needs.{needs}
 use Rattle.step.proofs.forward.forward_found.Statement.{statement}
 use Rattle.step.proofs.forward.forward_found.Tie as tie
@@ -15,146 +38,206 @@ use Rattle.step.proofs.checks.target_present.Reads as target-present-re
 use Rattle.step.proofs.checks.template_met.Reads as template-met-reads
 use Rattle.step.proofs.checks.tuple_there.Reads as tuple-there-reads
 
--- src/forward.rt:76:9
 action-of-requires : tie.Need-action-of-requires
 action-of-requires c κs = search needs
 
--- src/forward.rt:77:26
 cast-slot-at : tie.Need-cast-slot-at
 cast-slot-at c = search needs
 
--- src/forward.rt:77:9
 slot-at-requires : tie.Need-slot-at-requires
-slot-at-requires c κs = ?
+slot-at-requires c κs = (c .before .before .before .before .pre .1, in-range-key (c .before .before .before .before .args .r) (c .before .before .before .before .pre .2))
 
--- src/forward.rt:78:24
 is-live-requires : tie.Need-is-live-requires
 is-live-requires c κs = search needs
 
 enum-told : tie.Need-enum-told
 enum-told c = search needs
 
--- src/forward.rt:79:33
 enum-told-2 : tie.Need-enum-told-2
 enum-told-2 c = search needs
 
--- src/forward.rt:79:9
 returns : tie.Need-returns
-returns c = ?
+unfolding forwardFound forwardTests refusal
+returns c =
+    refused-by (actionOf (now (c .before .before .before .before .before .before .before .before .args .node))) (netOf (now (c .before .before .before .before .before .before .before .before .args .net))) (c .before .before .before .before .before .before .before .before .args .r) 4
+    (rw (
+    sym (ap (λ (z : Slot). eqb (z .kind) 1) (c .before .before .before .slot-at .ensures ∙ slot-with (netOf (now (c .before .before .before .before .before .before .before .before .args .net))) (c .before .before .before .before .before .before .before .before .args .r .key) (in-range-key (c .before .before .before .before .before .before .before .before .args .r) (c .before .before .before .before .before .before .before .before .pre .2)))) ∙ fails-false _ (sym (c .before .before .is-live .ensures) ∙ c .enum-told2 .given .1)
+    ))
+    refl
 
--- src/forward.rt:81:24
 acts-requires : tie.Need-acts-requires
 acts-requires c κs = search needs
 
 enum-told-3 : tie.Need-enum-told-3
 enum-told-3 c = search needs
 
--- src/forward.rt:82:33
 enum-told-4 : tie.Need-enum-told-4
 enum-told-4 c = search needs
 
--- src/forward.rt:82:9
 returns-2 : tie.Need-returns-2
-returns-2 c = ?
+unfolding forwardFound forwardTests refusal
+returns-2 c =
+    refused-by (actionOf (now (c .before .before .before .before .before .before .before .before .before .before .before .args .node))) (netOf (now (c .before .before .before .before .before .before .before .before .before .before .before .args .net))) (c .before .before .before .before .before .before .before .before .before .before .before .args .r) 5
+    (rw (
+      sym (ap (λ (z : Slot). eqb (z .kind) 1) (c .before .before .before .before .before .before .slot-at .ensures ∙ slot-with (netOf (now (c .before .before .before .before .before .before .before .before .before .before .before .args .net))) (c .before .before .before .before .before .before .before .before .before .before .before .args .r .key) (in-range-key (c .before .before .before .before .before .before .before .before .before .before .before .args .r) (c .before .before .before .before .before .before .before .before .before .before .before .pre .2)))) ∙ holds-true _ (sym (c .before .before .before .before .before .is-live .ensures) ∙ c .before .before .before .enum-told .given .1),
+      sym (ap (λ (z : Action). isStep (z .kind)) (c .before .before .before .before .before .before .before .before .action-of .ensures)) ∙ fails-false _ (sym (c .before .before .acts .ensures) ∙ c .enum-told4 .given .1),
+    ))
+    refl
 
--- src/forward.rt:84:24
 places-given-requires : tie.Need-places-given-requires
 places-given-requires c κs = search needs
 
 enum-told-5 : tie.Need-enum-told-5
 enum-told-5 c = search needs
 
--- src/forward.rt:85:33
 enum-told-6 : tie.Need-enum-told-6
 enum-told-6 c = search needs
 
--- src/forward.rt:85:9
 returns-3 : tie.Need-returns-3
-returns-3 c = ?
+unfolding forwardFound forwardTests refusal
+returns-3 c =
+    refused-by (actionOf (now (c .before .before .before .before .before .before .before .before .before .before .before .before .before .before .args .node))) (netOf (now (c .before .before .before .before .before .before .before .before .before .before .before .before .before .before .args .net))) (c .before .before .before .before .before .before .before .before .before .before .before .before .before .before .args .r) 6
+    (rw (
+      sym (ap (λ (z : Slot). eqb (z .kind) 1) (c .before .before .before .before .before .before .before .before .before .slot-at .ensures ∙ slot-with (netOf (now (c .before .before .before .before .before .before .before .before .before .before .before .before .before .before .args .net))) (c .before .before .before .before .before .before .before .before .before .before .before .before .before .before .args .r .key) (in-range-key (c .before .before .before .before .before .before .before .before .before .before .before .before .before .before .args .r) (c .before .before .before .before .before .before .before .before .before .before .before .before .before .before .pre .2)))) ∙ holds-true _ (sym (c .before .before .before .before .before .before .before .before .is-live .ensures) ∙ c .before .before .before .before .before .before .enum-told .given .1),
+      sym (ap (λ (z : Action). isStep (z .kind)) (c .before .before .before .before .before .before .before .before .before .before .before .action-of .ensures)) ∙ holds-true _ (sym (c .before .before .before .before .before .acts .ensures) ∙ c .before .before .before .enum-told3 .given .1),
+      sym (ap (λ (z : Action). placesBy (z .kind) (c .before .before .before .before .before .before .before .before .before .before .before .before .before .before .args .r)) (c .before .before .before .before .before .before .before .before .before .before .before .action-of .ensures)) ∙ fails-false _ (sym (c .before .before .places-given .ensures) ∙ c .enum-told6 .given .1),
+    ))
+    refl
 
--- src/forward.rt:89:32
 evaluable-requires : tie.Need-evaluable-requires
 evaluable-requires c κs = search needs
 
--- src/forward.rt:89:26
 enum-known-at : tie.Need-enum-known-at
 enum-known-at c = search needs
 
--- src/forward.rt:90:33
 enum-told-7 : tie.Need-enum-told-7
 enum-told-7 c = search needs
 
--- src/forward.rt:90:9
 returns-4 : tie.Need-returns-4
-returns-4 c = ?
+unfolding forwardFound forwardTests refusal
+returns-4 c =
+    refused-by (actionOf (now (c .before .before .before .before .before .before .before .before .before .before .before .before .before .before .before .before .before .before .before .args .node))) (netOf (now (c .before .before .before .before .before .before .before .before .before .before .before .before .before .before .before .before .before .before .before .args .net))) (c .before .before .before .before .before .before .before .before .before .before .before .before .before .before .before .before .before .before .before .args .r) 7
+    (rw (
+      sym (ap (λ (z : Slot). eqb (z .kind) 1) (c .before .before .before .before .before .before .before .before .before .before .before .before .before .before .slot-at .ensures ∙ slot-with (netOf (now (c .before .before .before .before .before .before .before .before .before .before .before .before .before .before .before .before .before .before .before .args .net))) (c .before .before .before .before .before .before .before .before .before .before .before .before .before .before .before .before .before .before .before .args .r .key) (in-range-key (c .before .before .before .before .before .before .before .before .before .before .before .before .before .before .before .before .before .before .before .args .r) (c .before .before .before .before .before .before .before .before .before .before .before .before .before .before .before .before .before .before .before .pre .2)))) ∙ holds-true _ (sym (c .before .before .before .before .before .before .before .before .before .before .before .before .before .is-live .ensures) ∙ c .before .before .before .before .before .before .before .before .before .before .before .enum-told .given .1),
+      sym (ap (λ (z : Action). isStep (z .kind)) (c .before .before .before .before .before .before .before .before .before .before .before .before .before .before .before .before .action-of .ensures)) ∙ holds-true _ (sym (c .before .before .before .before .before .before .before .before .before .before .acts .ensures) ∙ c .before .before .before .before .before .before .before .before .enum-told3 .given .1),
+      sym (ap (λ (z : Action). placesBy (z .kind) (c .before .before .before .before .before .before .before .before .before .before .before .before .before .before .before .before .before .before .before .args .r)) (c .before .before .before .before .before .before .before .before .before .before .before .before .before .before .before .before .action-of .ensures)) ∙ holds-true _ (sym (c .before .before .before .before .before .before .before .places-given .ensures) ∙ c .before .before .before .before .before .enum-told5 .given .1),
+      sym (ap (λ (z : Slot). readyBy (actionOf (now (c .before .before .before .before .before .before .before .before .before .before .before .before .before .before .before .before .before .before .before .args .node))) (z .contents)) (c .before .before .before .before .before .before .before .before .before .before .before .before .before .before .slot-at .ensures ∙ slot-with (netOf (now (c .before .before .before .before .before .before .before .before .before .before .before .before .before .before .before .before .before .before .before .args .net))) (c .before .before .before .before .before .before .before .before .before .before .before .before .before .before .before .before .before .before .before .args .r .key) (in-range-key (c .before .before .before .before .before .before .before .before .before .before .before .before .before .before .before .before .before .before .before .args .r) (c .before .before .before .before .before .before .before .before .before .before .before .before .before .before .before .before .before .before .before .pre .2)))) ∙ unset-false (actionOf (now (c .before .before .before .before .before .before .before .before .before .before .before .before .before .before .before .before .before .before .before .args .node))) _ _ (sym (c .before .before .evaluable .ensures) ∙ c .enum-told7 .given .1),
+    ))
+    refl
 
--- src/forward.rt:92:9
 present-in-requires : tie.Need-present-in-requires
 present-in-requires c κs = search needs
 
--- src/forward.rt:93:24
 target-present-requires : tie.Need-target-present-requires
 target-present-requires c κs = search needs
 
 enum-told-8 : tie.Need-enum-told-8
 enum-told-8 c = search needs
 
--- src/forward.rt:94:33
 enum-told-9 : tie.Need-enum-told-9
 enum-told-9 c = search needs
 
--- src/forward.rt:94:9
 returns-5 : tie.Need-returns-5
-returns-5 c = ?
+unfolding forwardFound forwardTests refusal
+returns-5 c =
+    refused-by (actionOf (now (c .before .before .before .before .before .before .before .before .before .before .before .before .before .before .before .before .before .before .before .before .before .before .before .before .args .node))) (netOf (now (c .before .before .before .before .before .before .before .before .before .before .before .before .before .before .before .before .before .before .before .before .before .before .before .before .args .net))) (c .before .before .before .before .before .before .before .before .before .before .before .before .before .before .before .before .before .before .before .before .before .before .before .before .args .r) 8
+    (rw (
+      sym (ap (λ (z : Slot). eqb (z .kind) 1) (c .before .before .before .before .before .before .before .before .before .before .before .before .before .before .before .before .before .before .before .slot-at .ensures ∙ slot-with (netOf (now (c .before .before .before .before .before .before .before .before .before .before .before .before .before .before .before .before .before .before .before .before .before .before .before .before .args .net))) (c .before .before .before .before .before .before .before .before .before .before .before .before .before .before .before .before .before .before .before .before .before .before .before .before .args .r .key) (in-range-key (c .before .before .before .before .before .before .before .before .before .before .before .before .before .before .before .before .before .before .before .before .before .before .before .before .args .r) (c .before .before .before .before .before .before .before .before .before .before .before .before .before .before .before .before .before .before .before .before .before .before .before .before .pre .2)))) ∙ holds-true _ (sym (c .before .before .before .before .before .before .before .before .before .before .before .before .before .before .before .before .before .before .is-live .ensures) ∙ c .before .before .before .before .before .before .before .before .before .before .before .before .before .before .before .before .enum-told .given .1),
+      sym (ap (λ (z : Action). isStep (z .kind)) (c .before .before .before .before .before .before .before .before .before .before .before .before .before .before .before .before .before .before .before .before .before .action-of .ensures)) ∙ holds-true _ (sym (c .before .before .before .before .before .before .before .before .before .before .before .before .before .before .before .acts .ensures) ∙ c .before .before .before .before .before .before .before .before .before .before .before .before .before .enum-told3 .given .1),
+      sym (ap (λ (z : Action). placesBy (z .kind) (c .before .before .before .before .before .before .before .before .before .before .before .before .before .before .before .before .before .before .before .before .before .before .before .before .args .r)) (c .before .before .before .before .before .before .before .before .before .before .before .before .before .before .before .before .before .before .before .before .before .action-of .ensures)) ∙ holds-true _ (sym (c .before .before .before .before .before .before .before .before .before .before .before .before .places-given .ensures) ∙ c .before .before .before .before .before .before .before .before .before .before .enum-told5 .given .1),
+      sym (ap (λ (z : Slot). readyBy (actionOf (now (c .before .before .before .before .before .before .before .before .before .before .before .before .before .before .before .before .before .before .before .before .before .before .before .before .args .node))) (z .contents)) (c .before .before .before .before .before .before .before .before .before .before .before .before .before .before .before .before .before .before .before .slot-at .ensures ∙ slot-with (netOf (now (c .before .before .before .before .before .before .before .before .before .before .before .before .before .before .before .before .before .before .before .before .before .before .before .before .args .net))) (c .before .before .before .before .before .before .before .before .before .before .before .before .before .before .before .before .before .before .before .before .before .before .before .before .args .r .key) (in-range-key (c .before .before .before .before .before .before .before .before .before .before .before .before .before .before .before .before .before .before .before .before .before .before .before .before .args .r) (c .before .before .before .before .before .before .before .before .before .before .before .before .before .before .before .before .before .before .before .before .before .before .before .before .pre .2)))) ∙ ready-acts (actionOf (now (c .before .before .before .before .before .before .before .before .before .before .before .before .before .before .before .before .before .before .before .before .before .before .before .before .args .node))) _ _ _ (sym (c .before .before .before .before .before .before .before .evaluable .ensures) ∙ c .before .before .before .before .before .at .given .1) .0,
+      sym (λ i. targetThere ((c .before .before .before .before .before .before .before .before .before .before .before .before .before .before .before .before .before .before .before .before .before .action-of .ensures) i .kind) ((c .before .before .before .present-in .ensures) i) ((ready-acts (actionOf (now (c .before .before .before .before .before .before .before .before .before .before .before .before .before .before .before .before .before .before .before .before .before .before .before .before .args .node))) _ _ _ (sym (c .before .before .before .before .before .before .before .evaluable .ensures) ∙ c .before .before .before .before .before .at .given .1) .1 ∙ ap (λ (z : Slot). actsAt (actionOf (now (c .before .before .before .before .before .before .before .before .before .before .before .before .before .before .before .before .before .before .before .before .before .before .before .before .args .node))) (z .locality) (z .contents)) (c .before .before .before .before .before .before .before .before .before .before .before .before .before .before .before .before .before .before .before .slot-at .ensures ∙ slot-with (netOf (now (c .before .before .before .before .before .before .before .before .before .before .before .before .before .before .before .before .before .before .before .before .before .before .before .before .args .net))) (c .before .before .before .before .before .before .before .before .before .before .before .before .before .before .before .before .before .before .before .before .before .before .before .before .args .r .key) (in-range-key (c .before .before .before .before .before .before .before .before .before .before .before .before .before .before .before .before .before .before .before .before .before .before .before .before .args .r) (c .before .before .before .before .before .before .before .before .before .before .before .before .before .before .before .before .before .before .before .before .before .before .before .before .pre .2)))) i)) ∙ fails-false _ (sym (c .before .before .target-present .ensures) ∙ c .enum-told9 .given .1),
+    ))
+    refl
 
--- src/forward.rt:96:24
 tuple-there-requires : tie.Need-tuple-there-requires
-tuple-there-requires c κs = ?
+tuple-there-requires c κs = c .before .before .before .before .before .before .before .before .before .before .before .before .before .before .before .before .before .before .before .before .before .before .before .before .pre .1
 
 enum-told-10 : tie.Need-enum-told-10
 enum-told-10 c = search needs
 
--- src/forward.rt:97:33
 enum-told-11 : tie.Need-enum-told-11
 enum-told-11 c = search needs
 
--- src/forward.rt:97:9
 returns-6 : tie.Need-returns-6
-returns-6 c = ?
+unfolding forwardFound forwardTests refusal
+returns-6 c =
+    refused-by (actionOf (now (c .before .before .before .before .before .before .before .before .before .before .before .before .before .before .before .before .before .before .before .before .before .before .before .before .before .before .before .args .node))) (netOf (now (c .before .before .before .before .before .before .before .before .before .before .before .before .before .before .before .before .before .before .before .before .before .before .before .before .before .before .before .args .net))) (c .before .before .before .before .before .before .before .before .before .before .before .before .before .before .before .before .before .before .before .before .before .before .before .before .before .before .before .args .r) 9
+    (rw (
+      sym (ap (λ (z : Slot). eqb (z .kind) 1) (c .before .before .before .before .before .before .before .before .before .before .before .before .before .before .before .before .before .before .before .before .before .before .slot-at .ensures ∙ slot-with (netOf (now (c .before .before .before .before .before .before .before .before .before .before .before .before .before .before .before .before .before .before .before .before .before .before .before .before .before .before .before .args .net))) (c .before .before .before .before .before .before .before .before .before .before .before .before .before .before .before .before .before .before .before .before .before .before .before .before .before .before .before .args .r .key) (in-range-key (c .before .before .before .before .before .before .before .before .before .before .before .before .before .before .before .before .before .before .before .before .before .before .before .before .before .before .before .args .r) (c .before .before .before .before .before .before .before .before .before .before .before .before .before .before .before .before .before .before .before .before .before .before .before .before .before .before .before .pre .2)))) ∙ holds-true _ (sym (c .before .before .before .before .before .before .before .before .before .before .before .before .before .before .before .before .before .before .before .before .before .is-live .ensures) ∙ c .before .before .before .before .before .before .before .before .before .before .before .before .before .before .before .before .before .before .before .enum-told .given .1),
+      sym (ap (λ (z : Action). isStep (z .kind)) (c .before .before .before .before .before .before .before .before .before .before .before .before .before .before .before .before .before .before .before .before .before .before .before .before .action-of .ensures)) ∙ holds-true _ (sym (c .before .before .before .before .before .before .before .before .before .before .before .before .before .before .before .before .before .before .acts .ensures) ∙ c .before .before .before .before .before .before .before .before .before .before .before .before .before .before .before .before .enum-told3 .given .1),
+      sym (ap (λ (z : Action). placesBy (z .kind) (c .before .before .before .before .before .before .before .before .before .before .before .before .before .before .before .before .before .before .before .before .before .before .before .before .before .before .before .args .r)) (c .before .before .before .before .before .before .before .before .before .before .before .before .before .before .before .before .before .before .before .before .before .before .before .before .action-of .ensures)) ∙ holds-true _ (sym (c .before .before .before .before .before .before .before .before .before .before .before .before .before .before .before .places-given .ensures) ∙ c .before .before .before .before .before .before .before .before .before .before .before .before .before .enum-told5 .given .1),
+      sym (ap (λ (z : Slot). readyBy (actionOf (now (c .before .before .before .before .before .before .before .before .before .before .before .before .before .before .before .before .before .before .before .before .before .before .before .before .before .before .before .args .node))) (z .contents)) (c .before .before .before .before .before .before .before .before .before .before .before .before .before .before .before .before .before .before .before .before .before .before .slot-at .ensures ∙ slot-with (netOf (now (c .before .before .before .before .before .before .before .before .before .before .before .before .before .before .before .before .before .before .before .before .before .before .before .before .before .before .before .args .net))) (c .before .before .before .before .before .before .before .before .before .before .before .before .before .before .before .before .before .before .before .before .before .before .before .before .before .before .before .args .r .key) (in-range-key (c .before .before .before .before .before .before .before .before .before .before .before .before .before .before .before .before .before .before .before .before .before .before .before .before .before .before .before .args .r) (c .before .before .before .before .before .before .before .before .before .before .before .before .before .before .before .before .before .before .before .before .before .before .before .before .before .before .before .pre .2)))) ∙ ready-acts (actionOf (now (c .before .before .before .before .before .before .before .before .before .before .before .before .before .before .before .before .before .before .before .before .before .before .before .before .before .before .before .args .node))) _ _ _ (sym (c .before .before .before .before .before .before .before .before .before .before .evaluable .ensures) ∙ c .before .before .before .before .before .before .before .before .at .given .1) .0,
+      sym (λ i. targetThere ((c .before .before .before .before .before .before .before .before .before .before .before .before .before .before .before .before .before .before .before .before .before .before .before .before .action-of .ensures) i .kind) ((c .before .before .before .before .before .before .present-in .ensures) i) ((ready-acts (actionOf (now (c .before .before .before .before .before .before .before .before .before .before .before .before .before .before .before .before .before .before .before .before .before .before .before .before .before .before .before .args .node))) _ _ _ (sym (c .before .before .before .before .before .before .before .before .before .before .evaluable .ensures) ∙ c .before .before .before .before .before .before .before .before .at .given .1) .1 ∙ ap (λ (z : Slot). actsAt (actionOf (now (c .before .before .before .before .before .before .before .before .before .before .before .before .before .before .before .before .before .before .before .before .before .before .before .before .before .before .before .args .node))) (z .locality) (z .contents)) (c .before .before .before .before .before .before .before .before .before .before .before .before .before .before .before .before .before .before .before .before .before .before .slot-at .ensures ∙ slot-with (netOf (now (c .before .before .before .before .before .before .before .before .before .before .before .before .before .before .before .before .before .before .before .before .before .before .before .before .before .before .before .args .net))) (c .before .before .before .before .before .before .before .before .before .before .before .before .before .before .before .before .before .before .before .before .before .before .before .before .before .before .before .args .r .key) (in-range-key (c .before .before .before .before .before .before .before .before .before .before .before .before .before .before .before .before .before .before .before .before .before .before .before .before .before .before .before .args .r) (c .before .before .before .before .before .before .before .before .before .before .before .before .before .before .before .before .before .before .before .before .before .before .before .before .before .before .before .pre .2)))) i)) ∙ holds-true _ (sym (c .before .before .before .before .before .target-present .ensures) ∙ c .before .before .before .enum-told8 .given .1),
+      sym (λ i. tupleThere ((c .before .before .before .before .before .before .before .before .before .before .before .before .before .before .before .before .before .before .before .before .before .before .before .before .action-of .ensures) i .kind) (slotWith (netOf (now (c .before .before .before .before .before .before .before .before .before .before .before .before .before .before .before .before .before .before .before .before .before .before .before .before .before .before .before .args .net))) (c .before .before .before .before .before .before .before .before .before .before .before .before .before .before .before .before .before .before .before .before .before .before .before .before .before .before .before .args .r .used)) ((ready-acts (actionOf (now (c .before .before .before .before .before .before .before .before .before .before .before .before .before .before .before .before .before .before .before .before .before .before .before .before .before .before .before .args .node))) _ _ _ (sym (c .before .before .before .before .before .before .before .before .before .before .evaluable .ensures) ∙ c .before .before .before .before .before .before .before .before .at .given .1) .1 ∙ ap (λ (z : Slot). actsAt (actionOf (now (c .before .before .before .before .before .before .before .before .before .before .before .before .before .before .before .before .before .before .before .before .before .before .before .before .before .before .before .args .node))) (z .locality) (z .contents)) (c .before .before .before .before .before .before .before .before .before .before .before .before .before .before .before .before .before .before .before .before .before .before .slot-at .ensures ∙ slot-with (netOf (now (c .before .before .before .before .before .before .before .before .before .before .before .before .before .before .before .before .before .before .before .before .before .before .before .before .before .before .before .args .net))) (c .before .before .before .before .before .before .before .before .before .before .before .before .before .before .before .before .before .before .before .before .before .before .before .before .before .before .before .args .r .key) (in-range-key (c .before .before .before .before .before .before .before .before .before .before .before .before .before .before .before .before .before .before .before .before .before .before .before .before .before .before .before .args .r) (c .before .before .before .before .before .before .before .before .before .before .before .before .before .before .before .before .before .before .before .before .before .before .before .before .before .before .before .pre .2)))) i)) ∙ fails-false _ (sym (c .before .before .tuple-there .ensures) ∙ c .enum-told11 .given .1),
+    ))
+    refl
 
--- src/forward.rt:99:24
 template-met-requires : tie.Need-template-met-requires
-template-met-requires c κs = ?
+template-met-requires c κs =
+    ((c .before .before .before .before .before .before .before .before .before .before .before .before .before .before .before .before .before .before .before .before .before .before .before .before .before .before .before .pre .0, c .before .before .before .before .before .before .before .before .before .before .before .before .before .before .before .before .before .before .before .before .before .before .before .before .before .before .before .pre .1), λ m. used-key _ (c .before .before .before .before .before .before .before .before .before .before .before .before .before .before .before .before .before .before .before .before .before .before .before .before .before .before .before .args .r) (c .before .before .before .before .before .before .before .before .before .before .before .before .before .before .before .before .before .before .before .before .before .before .before .before .before .before .before .pre .2) (sym (ap (λ (z : Action). placesBy (z .kind) (c .before .before .before .before .before .before .before .before .before .before .before .before .before .before .before .before .before .before .before .before .before .before .before .before .before .before .before .args .r)) (c .before .before .before .before .before .before .before .before .before .before .before .before .before .before .before .before .before .before .before .before .before .before .before .before .action-of .ensures)) ∙ holds-true _ (sym (c .before .before .before .before .before .before .before .before .before .before .before .before .before .before .before .places-given .ensures) ∙ c .before .before .before .before .before .before .before .before .before .before .before .before .before .enum-told5 .given .1)) m)
 
 enum-told-12 : tie.Need-enum-told-12
 enum-told-12 c = search needs
 
--- src/forward.rt:100:33
 enum-told-13 : tie.Need-enum-told-13
 enum-told-13 c = search needs
 
--- src/forward.rt:100:9
 returns-7 : tie.Need-returns-7
-returns-7 c = ?
+unfolding forwardFound forwardTests refusal
+returns-7 c =
+    refused-by (actionOf (now (c .before .before .before .before .before .before .before .before .before .before .before .before .before .before .before .before .before .before .before .before .before .before .before .before .before .before .before .before .before .before .args .node))) (netOf (now (c .before .before .before .before .before .before .before .before .before .before .before .before .before .before .before .before .before .before .before .before .before .before .before .before .before .before .before .before .before .before .args .net))) (c .before .before .before .before .before .before .before .before .before .before .before .before .before .before .before .before .before .before .before .before .before .before .before .before .before .before .before .before .before .before .args .r) 10
+    (rw (
+      sym (ap (λ (z : Slot). eqb (z .kind) 1) (c .before .before .before .before .before .before .before .before .before .before .before .before .before .before .before .before .before .before .before .before .before .before .before .before .before .slot-at .ensures ∙ slot-with (netOf (now (c .before .before .before .before .before .before .before .before .before .before .before .before .before .before .before .before .before .before .before .before .before .before .before .before .before .before .before .before .before .before .args .net))) (c .before .before .before .before .before .before .before .before .before .before .before .before .before .before .before .before .before .before .before .before .before .before .before .before .before .before .before .before .before .before .args .r .key) (in-range-key (c .before .before .before .before .before .before .before .before .before .before .before .before .before .before .before .before .before .before .before .before .before .before .before .before .before .before .before .before .before .before .args .r) (c .before .before .before .before .before .before .before .before .before .before .before .before .before .before .before .before .before .before .before .before .before .before .before .before .before .before .before .before .before .before .pre .2)))) ∙ holds-true _ (sym (c .before .before .before .before .before .before .before .before .before .before .before .before .before .before .before .before .before .before .before .before .before .before .before .before .is-live .ensures) ∙ c .before .before .before .before .before .before .before .before .before .before .before .before .before .before .before .before .before .before .before .before .before .before .enum-told .given .1),
+      sym (ap (λ (z : Action). isStep (z .kind)) (c .before .before .before .before .before .before .before .before .before .before .before .before .before .before .before .before .before .before .before .before .before .before .before .before .before .before .before .action-of .ensures)) ∙ holds-true _ (sym (c .before .before .before .before .before .before .before .before .before .before .before .before .before .before .before .before .before .before .before .before .before .acts .ensures) ∙ c .before .before .before .before .before .before .before .before .before .before .before .before .before .before .before .before .before .before .before .enum-told3 .given .1),
+      sym (ap (λ (z : Action). placesBy (z .kind) (c .before .before .before .before .before .before .before .before .before .before .before .before .before .before .before .before .before .before .before .before .before .before .before .before .before .before .before .before .before .before .args .r)) (c .before .before .before .before .before .before .before .before .before .before .before .before .before .before .before .before .before .before .before .before .before .before .before .before .before .before .before .action-of .ensures)) ∙ holds-true _ (sym (c .before .before .before .before .before .before .before .before .before .before .before .before .before .before .before .before .before .before .places-given .ensures) ∙ c .before .before .before .before .before .before .before .before .before .before .before .before .before .before .before .before .enum-told5 .given .1),
+      sym (ap (λ (z : Slot). readyBy (actionOf (now (c .before .before .before .before .before .before .before .before .before .before .before .before .before .before .before .before .before .before .before .before .before .before .before .before .before .before .before .before .before .before .args .node))) (z .contents)) (c .before .before .before .before .before .before .before .before .before .before .before .before .before .before .before .before .before .before .before .before .before .before .before .before .before .slot-at .ensures ∙ slot-with (netOf (now (c .before .before .before .before .before .before .before .before .before .before .before .before .before .before .before .before .before .before .before .before .before .before .before .before .before .before .before .before .before .before .args .net))) (c .before .before .before .before .before .before .before .before .before .before .before .before .before .before .before .before .before .before .before .before .before .before .before .before .before .before .before .before .before .before .args .r .key) (in-range-key (c .before .before .before .before .before .before .before .before .before .before .before .before .before .before .before .before .before .before .before .before .before .before .before .before .before .before .before .before .before .before .args .r) (c .before .before .before .before .before .before .before .before .before .before .before .before .before .before .before .before .before .before .before .before .before .before .before .before .before .before .before .before .before .before .pre .2)))) ∙ ready-acts (actionOf (now (c .before .before .before .before .before .before .before .before .before .before .before .before .before .before .before .before .before .before .before .before .before .before .before .before .before .before .before .before .before .before .args .node))) _ _ _ (sym (c .before .before .before .before .before .before .before .before .before .before .before .before .before .evaluable .ensures) ∙ c .before .before .before .before .before .before .before .before .before .before .before .at .given .1) .0,
+      sym (λ i. targetThere ((c .before .before .before .before .before .before .before .before .before .before .before .before .before .before .before .before .before .before .before .before .before .before .before .before .before .before .before .action-of .ensures) i .kind) ((c .before .before .before .before .before .before .before .before .before .present-in .ensures) i) ((ready-acts (actionOf (now (c .before .before .before .before .before .before .before .before .before .before .before .before .before .before .before .before .before .before .before .before .before .before .before .before .before .before .before .before .before .before .args .node))) _ _ _ (sym (c .before .before .before .before .before .before .before .before .before .before .before .before .before .evaluable .ensures) ∙ c .before .before .before .before .before .before .before .before .before .before .before .at .given .1) .1 ∙ ap (λ (z : Slot). actsAt (actionOf (now (c .before .before .before .before .before .before .before .before .before .before .before .before .before .before .before .before .before .before .before .before .before .before .before .before .before .before .before .before .before .before .args .node))) (z .locality) (z .contents)) (c .before .before .before .before .before .before .before .before .before .before .before .before .before .before .before .before .before .before .before .before .before .before .before .before .before .slot-at .ensures ∙ slot-with (netOf (now (c .before .before .before .before .before .before .before .before .before .before .before .before .before .before .before .before .before .before .before .before .before .before .before .before .before .before .before .before .before .before .args .net))) (c .before .before .before .before .before .before .before .before .before .before .before .before .before .before .before .before .before .before .before .before .before .before .before .before .before .before .before .before .before .before .args .r .key) (in-range-key (c .before .before .before .before .before .before .before .before .before .before .before .before .before .before .before .before .before .before .before .before .before .before .before .before .before .before .before .before .before .before .args .r) (c .before .before .before .before .before .before .before .before .before .before .before .before .before .before .before .before .before .before .before .before .before .before .before .before .before .before .before .before .before .before .pre .2)))) i)) ∙ holds-true _ (sym (c .before .before .before .before .before .before .before .before .target-present .ensures) ∙ c .before .before .before .before .before .before .enum-told8 .given .1),
+      sym (λ i. tupleThere ((c .before .before .before .before .before .before .before .before .before .before .before .before .before .before .before .before .before .before .before .before .before .before .before .before .before .before .before .action-of .ensures) i .kind) (slotWith (netOf (now (c .before .before .before .before .before .before .before .before .before .before .before .before .before .before .before .before .before .before .before .before .before .before .before .before .before .before .before .before .before .before .args .net))) (c .before .before .before .before .before .before .before .before .before .before .before .before .before .before .before .before .before .before .before .before .before .before .before .before .before .before .before .before .before .before .args .r .used)) ((ready-acts (actionOf (now (c .before .before .before .before .before .before .before .before .before .before .before .before .before .before .before .before .before .before .before .before .before .before .before .before .before .before .before .before .before .before .args .node))) _ _ _ (sym (c .before .before .before .before .before .before .before .before .before .before .before .before .before .evaluable .ensures) ∙ c .before .before .before .before .before .before .before .before .before .before .before .at .given .1) .1 ∙ ap (λ (z : Slot). actsAt (actionOf (now (c .before .before .before .before .before .before .before .before .before .before .before .before .before .before .before .before .before .before .before .before .before .before .before .before .before .before .before .before .before .before .args .node))) (z .locality) (z .contents)) (c .before .before .before .before .before .before .before .before .before .before .before .before .before .before .before .before .before .before .before .before .before .before .before .before .before .slot-at .ensures ∙ slot-with (netOf (now (c .before .before .before .before .before .before .before .before .before .before .before .before .before .before .before .before .before .before .before .before .before .before .before .before .before .before .before .before .before .before .args .net))) (c .before .before .before .before .before .before .before .before .before .before .before .before .before .before .before .before .before .before .before .before .before .before .before .before .before .before .before .before .before .before .args .r .key) (in-range-key (c .before .before .before .before .before .before .before .before .before .before .before .before .before .before .before .before .before .before .before .before .before .before .before .before .before .before .before .before .before .before .args .r) (c .before .before .before .before .before .before .before .before .before .before .before .before .before .before .before .before .before .before .before .before .before .before .before .before .before .before .before .before .before .before .pre .2)))) i)) ∙ holds-true _ (sym (c .before .before .before .before .before .tuple-there .ensures) ∙ c .before .before .before .enum-told10 .given .1),
+      sym (ap (λ (z : Slot). templateMet (actionOf (now (c .before .before .before .before .before .before .before .before .before .before .before .before .before .before .before .before .before .before .before .before .before .before .before .before .before .before .before .before .before .before .args .node))) (z .contents) (slotWith (netOf (now (c .before .before .before .before .before .before .before .before .before .before .before .before .before .before .before .before .before .before .before .before .before .before .before .before .before .before .before .before .before .before .args .net))) (c .before .before .before .before .before .before .before .before .before .before .before .before .before .before .before .before .before .before .before .before .before .before .before .before .before .before .before .before .before .before .args .r .used))) (c .before .before .before .before .before .before .before .before .before .before .before .before .before .before .before .before .before .before .before .before .before .before .before .before .before .slot-at .ensures ∙ slot-with (netOf (now (c .before .before .before .before .before .before .before .before .before .before .before .before .before .before .before .before .before .before .before .before .before .before .before .before .before .before .before .before .before .before .args .net))) (c .before .before .before .before .before .before .before .before .before .before .before .before .before .before .before .before .before .before .before .before .before .before .before .before .before .before .before .before .before .before .args .r .key) (in-range-key (c .before .before .before .before .before .before .before .before .before .before .before .before .before .before .before .before .before .before .before .before .before .before .before .before .before .before .before .before .before .before .args .r) (c .before .before .before .before .before .before .before .before .before .before .before .before .before .before .before .before .before .before .before .before .before .before .before .before .before .before .before .before .before .before .pre .2)))) ∙ fails-false _ (sym (c .before .before .template-met .ensures) ∙ c .enum-told13 .given .1),
+    ))
+    refl
 
--- src/forward.rt:102:24
 names-fresh-requires : tie.Need-names-fresh-requires
-names-fresh-requires c κs = ?
+names-fresh-requires c κs = c .before .before .before .before .before .before .before .before .before .before .before .before .before .before .before .before .before .before .before .before .before .before .before .before .before .before .before .before .before .before .pre .1
 
 enum-told-14 : tie.Need-enum-told-14
 enum-told-14 c = search needs
 
--- src/forward.rt:103:33
 enum-told-15 : tie.Need-enum-told-15
 enum-told-15 c = search needs
 
--- src/forward.rt:103:9
 returns-8 : tie.Need-returns-8
-returns-8 c = ?
+unfolding forwardFound forwardTests refusal
+returns-8 c =
+    refused-by (actionOf (now (c .before .before .before .before .before .before .before .before .before .before .before .before .before .before .before .before .before .before .before .before .before .before .before .before .before .before .before .before .before .before .before .before .before .args .node))) (netOf (now (c .before .before .before .before .before .before .before .before .before .before .before .before .before .before .before .before .before .before .before .before .before .before .before .before .before .before .before .before .before .before .before .before .before .args .net))) (c .before .before .before .before .before .before .before .before .before .before .before .before .before .before .before .before .before .before .before .before .before .before .before .before .before .before .before .before .before .before .before .before .before .args .r) 11
+    (rw (
+      sym (ap (λ (z : Slot). eqb (z .kind) 1) (c .before .before .before .before .before .before .before .before .before .before .before .before .before .before .before .before .before .before .before .before .before .before .before .before .before .before .before .before .slot-at .ensures ∙ slot-with (netOf (now (c .before .before .before .before .before .before .before .before .before .before .before .before .before .before .before .before .before .before .before .before .before .before .before .before .before .before .before .before .before .before .before .before .before .args .net))) (c .before .before .before .before .before .before .before .before .before .before .before .before .before .before .before .before .before .before .before .before .before .before .before .before .before .before .before .before .before .before .before .before .before .args .r .key) (in-range-key (c .before .before .before .before .before .before .before .before .before .before .before .before .before .before .before .before .before .before .before .before .before .before .before .before .before .before .before .before .before .before .before .before .before .args .r) (c .before .before .before .before .before .before .before .before .before .before .before .before .before .before .before .before .before .before .before .before .before .before .before .before .before .before .before .before .before .before .before .before .before .pre .2)))) ∙ holds-true _ (sym (c .before .before .before .before .before .before .before .before .before .before .before .before .before .before .before .before .before .before .before .before .before .before .before .before .before .before .before .is-live .ensures) ∙ c .before .before .before .before .before .before .before .before .before .before .before .before .before .before .before .before .before .before .before .before .before .before .before .before .before .enum-told .given .1),
+      sym (ap (λ (z : Action). isStep (z .kind)) (c .before .before .before .before .before .before .before .before .before .before .before .before .before .before .before .before .before .before .before .before .before .before .before .before .before .before .before .before .before .before .action-of .ensures)) ∙ holds-true _ (sym (c .before .before .before .before .before .before .before .before .before .before .before .before .before .before .before .before .before .before .before .before .before .before .before .before .acts .ensures) ∙ c .before .before .before .before .before .before .before .before .before .before .before .before .before .before .before .before .before .before .before .before .before .before .enum-told3 .given .1),
+      sym (ap (λ (z : Action). placesBy (z .kind) (c .before .before .before .before .before .before .before .before .before .before .before .before .before .before .before .before .before .before .before .before .before .before .before .before .before .before .before .before .before .before .before .before .before .args .r)) (c .before .before .before .before .before .before .before .before .before .before .before .before .before .before .before .before .before .before .before .before .before .before .before .before .before .before .before .before .before .before .action-of .ensures)) ∙ holds-true _ (sym (c .before .before .before .before .before .before .before .before .before .before .before .before .before .before .before .before .before .before .before .before .before .places-given .ensures) ∙ c .before .before .before .before .before .before .before .before .before .before .before .before .before .before .before .before .before .before .before .enum-told5 .given .1),
+      sym (ap (λ (z : Slot). readyBy (actionOf (now (c .before .before .before .before .before .before .before .before .before .before .before .before .before .before .before .before .before .before .before .before .before .before .before .before .before .before .before .before .before .before .before .before .before .args .node))) (z .contents)) (c .before .before .before .before .before .before .before .before .before .before .before .before .before .before .before .before .before .before .before .before .before .before .before .before .before .before .before .before .slot-at .ensures ∙ slot-with (netOf (now (c .before .before .before .before .before .before .before .before .before .before .before .before .before .before .before .before .before .before .before .before .before .before .before .before .before .before .before .before .before .before .before .before .before .args .net))) (c .before .before .before .before .before .before .before .before .before .before .before .before .before .before .before .before .before .before .before .before .before .before .before .before .before .before .before .before .before .before .before .before .before .args .r .key) (in-range-key (c .before .before .before .before .before .before .before .before .before .before .before .before .before .before .before .before .before .before .before .before .before .before .before .before .before .before .before .before .before .before .before .before .before .args .r) (c .before .before .before .before .before .before .before .before .before .before .before .before .before .before .before .before .before .before .before .before .before .before .before .before .before .before .before .before .before .before .before .before .before .pre .2)))) ∙ ready-acts (actionOf (now (c .before .before .before .before .before .before .before .before .before .before .before .before .before .before .before .before .before .before .before .before .before .before .before .before .before .before .before .before .before .before .before .before .before .args .node))) _ _ _ (sym (c .before .before .before .before .before .before .before .before .before .before .before .before .before .before .before .before .evaluable .ensures) ∙ c .before .before .before .before .before .before .before .before .before .before .before .before .before .before .at .given .1) .0,
+      sym (λ i. targetThere ((c .before .before .before .before .before .before .before .before .before .before .before .before .before .before .before .before .before .before .before .before .before .before .before .before .before .before .before .before .before .before .action-of .ensures) i .kind) ((c .before .before .before .before .before .before .before .before .before .before .before .before .present-in .ensures) i) ((ready-acts (actionOf (now (c .before .before .before .before .before .before .before .before .before .before .before .before .before .before .before .before .before .before .before .before .before .before .before .before .before .before .before .before .before .before .before .before .before .args .node))) _ _ _ (sym (c .before .before .before .before .before .before .before .before .before .before .before .before .before .before .before .before .evaluable .ensures) ∙ c .before .before .before .before .before .before .before .before .before .before .before .before .before .before .at .given .1) .1 ∙ ap (λ (z : Slot). actsAt (actionOf (now (c .before .before .before .before .before .before .before .before .before .before .before .before .before .before .before .before .before .before .before .before .before .before .before .before .before .before .before .before .before .before .before .before .before .args .node))) (z .locality) (z .contents)) (c .before .before .before .before .before .before .before .before .before .before .before .before .before .before .before .before .before .before .before .before .before .before .before .before .before .before .before .before .slot-at .ensures ∙ slot-with (netOf (now (c .before .before .before .before .before .before .before .before .before .before .before .before .before .before .before .before .before .before .before .before .before .before .before .before .before .before .before .before .before .before .before .before .before .args .net))) (c .before .before .before .before .before .before .before .before .before .before .before .before .before .before .before .before .before .before .before .before .before .before .before .before .before .before .before .before .before .before .before .before .before .args .r .key) (in-range-key (c .before .before .before .before .before .before .before .before .before .before .before .before .before .before .before .before .before .before .before .before .before .before .before .before .before .before .before .before .before .before .before .before .before .args .r) (c .before .before .before .before .before .before .before .before .before .before .before .before .before .before .before .before .before .before .before .before .before .before .before .before .before .before .before .before .before .before .before .before .before .pre .2)))) i)) ∙ holds-true _ (sym (c .before .before .before .before .before .before .before .before .before .before .before .target-present .ensures) ∙ c .before .before .before .before .before .before .before .before .before .enum-told8 .given .1),
+      sym (λ i. tupleThere ((c .before .before .before .before .before .before .before .before .before .before .before .before .before .before .before .before .before .before .before .before .before .before .before .before .before .before .before .before .before .before .action-of .ensures) i .kind) (slotWith (netOf (now (c .before .before .before .before .before .before .before .before .before .before .before .before .before .before .before .before .before .before .before .before .before .before .before .before .before .before .before .before .before .before .before .before .before .args .net))) (c .before .before .before .before .before .before .before .before .before .before .before .before .before .before .before .before .before .before .before .before .before .before .before .before .before .before .before .before .before .before .before .before .before .args .r .used)) ((ready-acts (actionOf (now (c .before .before .before .before .before .before .before .before .before .before .before .before .before .before .before .before .before .before .before .before .before .before .before .before .before .before .before .before .before .before .before .before .before .args .node))) _ _ _ (sym (c .before .before .before .before .before .before .before .before .before .before .before .before .before .before .before .before .evaluable .ensures) ∙ c .before .before .before .before .before .before .before .before .before .before .before .before .before .before .at .given .1) .1 ∙ ap (λ (z : Slot). actsAt (actionOf (now (c .before .before .before .before .before .before .before .before .before .before .before .before .before .before .before .before .before .before .before .before .before .before .before .before .before .before .before .before .before .before .before .before .before .args .node))) (z .locality) (z .contents)) (c .before .before .before .before .before .before .before .before .before .before .before .before .before .before .before .before .before .before .before .before .before .before .before .before .before .before .before .before .slot-at .ensures ∙ slot-with (netOf (now (c .before .before .before .before .before .before .before .before .before .before .before .before .before .before .before .before .before .before .before .before .before .before .before .before .before .before .before .before .before .before .before .before .before .args .net))) (c .before .before .before .before .before .before .before .before .before .before .before .before .before .before .before .before .before .before .before .before .before .before .before .before .before .before .before .before .before .before .before .before .before .args .r .key) (in-range-key (c .before .before .before .before .before .before .before .before .before .before .before .before .before .before .before .before .before .before .before .before .before .before .before .before .before .before .before .before .before .before .before .before .before .args .r) (c .before .before .before .before .before .before .before .before .before .before .before .before .before .before .before .before .before .before .before .before .before .before .before .before .before .before .before .before .before .before .before .before .before .pre .2)))) i)) ∙ holds-true _ (sym (c .before .before .before .before .before .before .before .before .tuple-there .ensures) ∙ c .before .before .before .before .before .before .enum-told10 .given .1),
+      sym (ap (λ (z : Slot). templateMet (actionOf (now (c .before .before .before .before .before .before .before .before .before .before .before .before .before .before .before .before .before .before .before .before .before .before .before .before .before .before .before .before .before .before .before .before .before .args .node))) (z .contents) (slotWith (netOf (now (c .before .before .before .before .before .before .before .before .before .before .before .before .before .before .before .before .before .before .before .before .before .before .before .before .before .before .before .before .before .before .before .before .before .args .net))) (c .before .before .before .before .before .before .before .before .before .before .before .before .before .before .before .before .before .before .before .before .before .before .before .before .before .before .before .before .before .before .before .before .before .args .r .used))) (c .before .before .before .before .before .before .before .before .before .before .before .before .before .before .before .before .before .before .before .before .before .before .before .before .before .before .before .before .slot-at .ensures ∙ slot-with (netOf (now (c .before .before .before .before .before .before .before .before .before .before .before .before .before .before .before .before .before .before .before .before .before .before .before .before .before .before .before .before .before .before .before .before .before .args .net))) (c .before .before .before .before .before .before .before .before .before .before .before .before .before .before .before .before .before .before .before .before .before .before .before .before .before .before .before .before .before .before .before .before .before .args .r .key) (in-range-key (c .before .before .before .before .before .before .before .before .before .before .before .before .before .before .before .before .before .before .before .before .before .before .before .before .before .before .before .before .before .before .before .before .before .args .r) (c .before .before .before .before .before .before .before .before .before .before .before .before .before .before .before .before .before .before .before .before .before .before .before .before .before .before .before .before .before .before .before .before .before .pre .2)))) ∙ holds-true _ (sym (c .before .before .before .before .before .template-met .ensures) ∙ c .before .before .before .enum-told12 .given .1),
+      sym (ap (λ (z : Action). namesFresh (z .kind) (isFree (slotWith (netOf (now (c .before .before .before .before .before .before .before .before .before .before .before .before .before .before .before .before .before .before .before .before .before .before .before .before .before .before .before .before .before .before .before .before .before .args .net))) (c .before .before .before .before .before .before .before .before .before .before .before .before .before .before .before .before .before .before .before .before .before .before .before .before .before .before .before .before .before .before .before .before .before .args .r .first))) (isFree (slotWith (netOf (now (c .before .before .before .before .before .before .before .before .before .before .before .before .before .before .before .before .before .before .before .before .before .before .before .before .before .before .before .before .before .before .before .before .before .args .net))) (c .before .before .before .before .before .before .before .before .before .before .before .before .before .before .before .before .before .before .before .before .before .before .before .before .before .before .before .before .before .before .before .before .before .args .r .second))) ((netOf (now (c .before .before .before .before .before .before .before .before .before .before .before .before .before .before .before .before .before .before .before .before .before .before .before .before .before .before .before .before .before .before .before .before .before .args .net))) .present) (c .before .before .before .before .before .before .before .before .before .before .before .before .before .before .before .before .before .before .before .before .before .before .before .before .before .before .before .before .before .before .before .before .before .args .r)) (c .before .before .before .before .before .before .before .before .before .before .before .before .before .before .before .before .before .before .before .before .before .before .before .before .before .before .before .before .before .before .action-of .ensures)) ∙ fails-false _ (sym (c .before .before .names-fresh .ensures) ∙ c .enum-told15 .given .1),
+    ))
+    refl
 
--- src/forward.rt:72:1
 returns-9 : tie.Need-returns-9
-returns-9 c = ?
+unfolding forwardFound forwardTests refusal
+returns-9 c =
+    allowed-at (actionOf (now (c .before .before .before .before .before .before .before .before .before .before .before .before .before .before .before .before .before .before .before .before .before .before .before .before .before .before .before .before .before .before .before .before .before .args .node))) (netOf (now (c .before .before .before .before .before .before .before .before .before .before .before .before .before .before .before .before .before .before .before .before .before .before .before .before .before .before .before .before .before .before .before .before .before .args .net))) (c .before .before .before .before .before .before .before .before .before .before .before .before .before .before .before .before .before .before .before .before .before .before .before .before .before .before .before .before .before .before .before .before .before .args .r) _
+    (rw (
+      sym (ap (λ (z : Slot). eqb (z .kind) 1) (c .before .before .before .before .before .before .before .before .before .before .before .before .before .before .before .before .before .before .before .before .before .before .before .before .before .before .before .before .slot-at .ensures ∙ slot-with (netOf (now (c .before .before .before .before .before .before .before .before .before .before .before .before .before .before .before .before .before .before .before .before .before .before .before .before .before .before .before .before .before .before .before .before .before .args .net))) (c .before .before .before .before .before .before .before .before .before .before .before .before .before .before .before .before .before .before .before .before .before .before .before .before .before .before .before .before .before .before .before .before .before .args .r .key) (in-range-key (c .before .before .before .before .before .before .before .before .before .before .before .before .before .before .before .before .before .before .before .before .before .before .before .before .before .before .before .before .before .before .before .before .before .args .r) (c .before .before .before .before .before .before .before .before .before .before .before .before .before .before .before .before .before .before .before .before .before .before .before .before .before .before .before .before .before .before .before .before .before .pre .2)))) ∙ holds-true _ (sym (c .before .before .before .before .before .before .before .before .before .before .before .before .before .before .before .before .before .before .before .before .before .before .before .before .before .before .before .is-live .ensures) ∙ c .before .before .before .before .before .before .before .before .before .before .before .before .before .before .before .before .before .before .before .before .before .before .before .before .before .enum-told .given .1),
+      sym (ap (λ (z : Action). isStep (z .kind)) (c .before .before .before .before .before .before .before .before .before .before .before .before .before .before .before .before .before .before .before .before .before .before .before .before .before .before .before .before .before .before .action-of .ensures)) ∙ holds-true _ (sym (c .before .before .before .before .before .before .before .before .before .before .before .before .before .before .before .before .before .before .before .before .before .before .before .before .acts .ensures) ∙ c .before .before .before .before .before .before .before .before .before .before .before .before .before .before .before .before .before .before .before .before .before .before .enum-told3 .given .1),
+      sym (ap (λ (z : Action). placesBy (z .kind) (c .before .before .before .before .before .before .before .before .before .before .before .before .before .before .before .before .before .before .before .before .before .before .before .before .before .before .before .before .before .before .before .before .before .args .r)) (c .before .before .before .before .before .before .before .before .before .before .before .before .before .before .before .before .before .before .before .before .before .before .before .before .before .before .before .before .before .before .action-of .ensures)) ∙ holds-true _ (sym (c .before .before .before .before .before .before .before .before .before .before .before .before .before .before .before .before .before .before .before .before .before .places-given .ensures) ∙ c .before .before .before .before .before .before .before .before .before .before .before .before .before .before .before .before .before .before .before .enum-told5 .given .1),
+      sym (ap (λ (z : Slot). readyBy (actionOf (now (c .before .before .before .before .before .before .before .before .before .before .before .before .before .before .before .before .before .before .before .before .before .before .before .before .before .before .before .before .before .before .before .before .before .args .node))) (z .contents)) (c .before .before .before .before .before .before .before .before .before .before .before .before .before .before .before .before .before .before .before .before .before .before .before .before .before .before .before .before .slot-at .ensures ∙ slot-with (netOf (now (c .before .before .before .before .before .before .before .before .before .before .before .before .before .before .before .before .before .before .before .before .before .before .before .before .before .before .before .before .before .before .before .before .before .args .net))) (c .before .before .before .before .before .before .before .before .before .before .before .before .before .before .before .before .before .before .before .before .before .before .before .before .before .before .before .before .before .before .before .before .before .args .r .key) (in-range-key (c .before .before .before .before .before .before .before .before .before .before .before .before .before .before .before .before .before .before .before .before .before .before .before .before .before .before .before .before .before .before .before .before .before .args .r) (c .before .before .before .before .before .before .before .before .before .before .before .before .before .before .before .before .before .before .before .before .before .before .before .before .before .before .before .before .before .before .before .before .before .pre .2)))) ∙ ready-acts (actionOf (now (c .before .before .before .before .before .before .before .before .before .before .before .before .before .before .before .before .before .before .before .before .before .before .before .before .before .before .before .before .before .before .before .before .before .args .node))) _ _ _ (sym (c .before .before .before .before .before .before .before .before .before .before .before .before .before .before .before .before .evaluable .ensures) ∙ c .before .before .before .before .before .before .before .before .before .before .before .before .before .before .at .given .1) .0,
+      sym (λ i. targetThere ((c .before .before .before .before .before .before .before .before .before .before .before .before .before .before .before .before .before .before .before .before .before .before .before .before .before .before .before .before .before .before .action-of .ensures) i .kind) ((c .before .before .before .before .before .before .before .before .before .before .before .before .present-in .ensures) i) ((ready-acts (actionOf (now (c .before .before .before .before .before .before .before .before .before .before .before .before .before .before .before .before .before .before .before .before .before .before .before .before .before .before .before .before .before .before .before .before .before .args .node))) _ _ _ (sym (c .before .before .before .before .before .before .before .before .before .before .before .before .before .before .before .before .evaluable .ensures) ∙ c .before .before .before .before .before .before .before .before .before .before .before .before .before .before .at .given .1) .1 ∙ ap (λ (z : Slot). actsAt (actionOf (now (c .before .before .before .before .before .before .before .before .before .before .before .before .before .before .before .before .before .before .before .before .before .before .before .before .before .before .before .before .before .before .before .before .before .args .node))) (z .locality) (z .contents)) (c .before .before .before .before .before .before .before .before .before .before .before .before .before .before .before .before .before .before .before .before .before .before .before .before .before .before .before .before .slot-at .ensures ∙ slot-with (netOf (now (c .before .before .before .before .before .before .before .before .before .before .before .before .before .before .before .before .before .before .before .before .before .before .before .before .before .before .before .before .before .before .before .before .before .args .net))) (c .before .before .before .before .before .before .before .before .before .before .before .before .before .before .before .before .before .before .before .before .before .before .before .before .before .before .before .before .before .before .before .before .before .args .r .key) (in-range-key (c .before .before .before .before .before .before .before .before .before .before .before .before .before .before .before .before .before .before .before .before .before .before .before .before .before .before .before .before .before .before .before .before .before .args .r) (c .before .before .before .before .before .before .before .before .before .before .before .before .before .before .before .before .before .before .before .before .before .before .before .before .before .before .before .before .before .before .before .before .before .pre .2)))) i)) ∙ holds-true _ (sym (c .before .before .before .before .before .before .before .before .before .before .before .target-present .ensures) ∙ c .before .before .before .before .before .before .before .before .before .enum-told8 .given .1),
+      sym (λ i. tupleThere ((c .before .before .before .before .before .before .before .before .before .before .before .before .before .before .before .before .before .before .before .before .before .before .before .before .before .before .before .before .before .before .action-of .ensures) i .kind) (slotWith (netOf (now (c .before .before .before .before .before .before .before .before .before .before .before .before .before .before .before .before .before .before .before .before .before .before .before .before .before .before .before .before .before .before .before .before .before .args .net))) (c .before .before .before .before .before .before .before .before .before .before .before .before .before .before .before .before .before .before .before .before .before .before .before .before .before .before .before .before .before .before .before .before .before .args .r .used)) ((ready-acts (actionOf (now (c .before .before .before .before .before .before .before .before .before .before .before .before .before .before .before .before .before .before .before .before .before .before .before .before .before .before .before .before .before .before .before .before .before .args .node))) _ _ _ (sym (c .before .before .before .before .before .before .before .before .before .before .before .before .before .before .before .before .evaluable .ensures) ∙ c .before .before .before .before .before .before .before .before .before .before .before .before .before .before .at .given .1) .1 ∙ ap (λ (z : Slot). actsAt (actionOf (now (c .before .before .before .before .before .before .before .before .before .before .before .before .before .before .before .before .before .before .before .before .before .before .before .before .before .before .before .before .before .before .before .before .before .args .node))) (z .locality) (z .contents)) (c .before .before .before .before .before .before .before .before .before .before .before .before .before .before .before .before .before .before .before .before .before .before .before .before .before .before .before .before .slot-at .ensures ∙ slot-with (netOf (now (c .before .before .before .before .before .before .before .before .before .before .before .before .before .before .before .before .before .before .before .before .before .before .before .before .before .before .before .before .before .before .before .before .before .args .net))) (c .before .before .before .before .before .before .before .before .before .before .before .before .before .before .before .before .before .before .before .before .before .before .before .before .before .before .before .before .before .before .before .before .before .args .r .key) (in-range-key (c .before .before .before .before .before .before .before .before .before .before .before .before .before .before .before .before .before .before .before .before .before .before .before .before .before .before .before .before .before .before .before .before .before .args .r) (c .before .before .before .before .before .before .before .before .before .before .before .before .before .before .before .before .before .before .before .before .before .before .before .before .before .before .before .before .before .before .before .before .before .pre .2)))) i)) ∙ holds-true _ (sym (c .before .before .before .before .before .before .before .before .tuple-there .ensures) ∙ c .before .before .before .before .before .before .enum-told10 .given .1),
+      sym (ap (λ (z : Slot). templateMet (actionOf (now (c .before .before .before .before .before .before .before .before .before .before .before .before .before .before .before .before .before .before .before .before .before .before .before .before .before .before .before .before .before .before .before .before .before .args .node))) (z .contents) (slotWith (netOf (now (c .before .before .before .before .before .before .before .before .before .before .before .before .before .before .before .before .before .before .before .before .before .before .before .before .before .before .before .before .before .before .before .before .before .args .net))) (c .before .before .before .before .before .before .before .before .before .before .before .before .before .before .before .before .before .before .before .before .before .before .before .before .before .before .before .before .before .before .before .before .before .args .r .used))) (c .before .before .before .before .before .before .before .before .before .before .before .before .before .before .before .before .before .before .before .before .before .before .before .before .before .before .before .before .slot-at .ensures ∙ slot-with (netOf (now (c .before .before .before .before .before .before .before .before .before .before .before .before .before .before .before .before .before .before .before .before .before .before .before .before .before .before .before .before .before .before .before .before .before .args .net))) (c .before .before .before .before .before .before .before .before .before .before .before .before .before .before .before .before .before .before .before .before .before .before .before .before .before .before .before .before .before .before .before .before .before .args .r .key) (in-range-key (c .before .before .before .before .before .before .before .before .before .before .before .before .before .before .before .before .before .before .before .before .before .before .before .before .before .before .before .before .before .before .before .before .before .args .r) (c .before .before .before .before .before .before .before .before .before .before .before .before .before .before .before .before .before .before .before .before .before .before .before .before .before .before .before .before .before .before .before .before .before .pre .2)))) ∙ holds-true _ (sym (c .before .before .before .before .before .template-met .ensures) ∙ c .before .before .before .enum-told12 .given .1),
+      sym (ap (λ (z : Action). namesFresh (z .kind) (isFree (slotWith (netOf (now (c .before .before .before .before .before .before .before .before .before .before .before .before .before .before .before .before .before .before .before .before .before .before .before .before .before .before .before .before .before .before .before .before .before .args .net))) (c .before .before .before .before .before .before .before .before .before .before .before .before .before .before .before .before .before .before .before .before .before .before .before .before .before .before .before .before .before .before .before .before .before .args .r .first))) (isFree (slotWith (netOf (now (c .before .before .before .before .before .before .before .before .before .before .before .before .before .before .before .before .before .before .before .before .before .before .before .before .before .before .before .before .before .before .before .before .before .args .net))) (c .before .before .before .before .before .before .before .before .before .before .before .before .before .before .before .before .before .before .before .before .before .before .before .before .before .before .before .before .before .before .before .before .before .args .r .second))) ((netOf (now (c .before .before .before .before .before .before .before .before .before .before .before .before .before .before .before .before .before .before .before .before .before .before .before .before .before .before .before .before .before .before .before .before .before .args .net))) .present) (c .before .before .before .before .before .before .before .before .before .before .before .before .before .before .before .before .before .before .before .before .before .before .before .before .before .before .before .before .before .before .before .before .before .args .r)) (c .before .before .before .before .before .before .before .before .before .before .before .before .before .before .before .before .before .before .before .before .before .before .before .before .before .before .before .before .before .before .action-of .ensures)) ∙ holds-true _ (sym (c .before .before .names-fresh .ensures) ∙ c .enum-told14 .given .1),
+    ))
+    (ready-acts (actionOf (now (c .before .before .before .before .before .before .before .before .before .before .before .before .before .before .before .before .before .before .before .before .before .before .before .before .before .before .before .before .before .before .before .before .before .args .node))) _ _ _ (sym (c .before .before .before .before .before .before .before .before .before .before .before .before .before .before .before .before .evaluable .ensures) ∙ c .before .before .before .before .before .before .before .before .before .before .before .before .before .before .at .given .1) .1 ∙ ap (λ (z : Slot). actsAt (actionOf (now (c .before .before .before .before .before .before .before .before .before .before .before .before .before .before .before .before .before .before .before .before .before .before .before .before .before .before .before .before .before .before .before .before .before .args .node))) (z .locality) (z .contents)) (c .before .before .before .before .before .before .before .before .before .before .before .before .before .before .before .before .before .before .before .before .before .before .before .before .before .before .before .before .slot-at .ensures ∙ slot-with (netOf (now (c .before .before .before .before .before .before .before .before .before .before .before .before .before .before .before .before .before .before .before .before .before .before .before .before .before .before .before .before .before .before .before .before .before .args .net))) (c .before .before .before .before .before .before .before .before .before .before .before .before .before .before .before .before .before .before .before .before .before .before .before .before .before .before .before .before .before .before .before .before .before .args .r .key) (in-range-key (c .before .before .before .before .before .before .before .before .before .before .before .before .before .before .before .before .before .before .before .before .before .before .before .before .before .before .before .before .before .before .before .before .before .args .r) (c .before .before .before .before .before .before .before .before .before .before .before .before .before .before .before .before .before .before .before .before .before .before .before .before .before .before .before .before .before .before .before .before .before .pre .2))))
 
 pub forward-found-spec : {M : Type 1} → statement M
 forward-found-spec =

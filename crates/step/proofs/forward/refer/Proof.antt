@@ -1,3 +1,21 @@
+-- `refer` meets its contract. Assumes nothing.
+use Prim.Native.Nat.{ℕ, _+_, _*_, _<_, _≤_}
+use mathlib.Core.Path.{_≡_, refl, ap, ap₂, sym, _∙_, subst}
+use mathlib.Core.Bool.{Bool, true, false}
+use mathlib.Core.List.{List}
+use native.Mathlib.Omega.{arith}
+use denote.Ref.{now}
+use lib.Dec.{eqb, ltb}
+use borrow.Author.Tests.{eq-eqb, ne-eqb, lt-ltb, le-ltb, ltb-true, not-true, not-false}
+use Rattle.names.specs.declared.Locality.{Locality}
+use Rattle.names.specs.declared.Localities.{Localities}
+use Rattle.names.specs.declared.Variable.{Variable}
+use Rattle.images.specs.Net.{slotWith}
+use Rattle.images.specs.Read.{netOf, actionOf}
+use Rattle.images.specs.InPlace.{slotPut, presentPut}
+use Rattle.images.specs.declared.Action.{Action}
+use Rattle.images.specs.declared.Slot.{Slot}
+use Rattle.step.specs.Next.{referPut}
 use borrow.Author.Needs.{needs}
 use Rattle.step.proofs.forward.refer.Statement.{statement}
 use Rattle.step.proofs.forward.refer.Tie as tie
@@ -5,21 +23,19 @@ use Rattle.step.proofs.forward.refer.Reads as reads
 use Rattle.step.proofs.forward.refer.Lts as lts
 use Rattle.images.proofs.net_image.put_reference.Reads as put-reference-reads
 
--- src/forward.rt:152:9
 returns : tie.Need-returns
-returns c = ?
+unfolding referPut
+returns c = rw (le-ltb _ _ (c .if1 .taken))
 
--- src/forward.rt:154:5
 put-reference-requires : tie.Need-put-reference-requires
 put-reference-requires c κs = search needs
 
--- src/forward.rt:146:1
 same-length : tie.Need-same-length
 same-length c = search needs
 
--- src/forward.rt:146:1
 returns-2 : tie.Need-returns-2
-returns-2 c = ?
+unfolding referPut
+returns-2 c = rw (lt-ltb _ _ (c .before .before .before .before .if1 .left)) (c .before .before .put-reference .ensures)
 
 pub refer-spec : {M : Type 1} → statement M
 refer-spec = tie.close (tie.spec returns put-reference-requires same-length returns-2)
