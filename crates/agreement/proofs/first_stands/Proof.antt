@@ -21,7 +21,7 @@ stands-as-requires : tie.Need-stands-as-requires
 stands-as-requires c κs = search needs
 
 returns : tie.Need-returns
-returns c = rw (c .stands-as .ensures, c .before .slot-in2 .ensures, c .before .before .before .continuation .ensures, c .before .before .before .before .before .before .slot-in .ensures)
+returns c = rw (c .stands-as .ensures, c .before .slot-in2 .ensures, c .before .before .before .continuation .ensures, c .before .before .before .before .before .slot-in .ensures)
 
 pub first-stands-spec : {M : Type 1} → statement M
 first-stands-spec =

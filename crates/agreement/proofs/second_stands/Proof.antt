@@ -1,7 +1,7 @@
 -- `second_stands` meets its contract. Assumes nothing.
 use mathlib.Core.Path.{_∙_, sym}
 use borrow.Author.Tests.{eq-eqb, ne-eqb, not-true, not-false}
-use Rattle.agreement.specs.Agreement.{secondStands}
+use Rattle.agreement.specs.Looked.{secondStandsAt}
 use borrow.Author.Needs.{needs}
 use Rattle.agreement.proofs.second_stands.Statement.{statement}
 use Rattle.agreement.proofs.second_stands.Tie as tie
@@ -16,7 +16,7 @@ makes-second-requires : tie.Need-makes-second-requires
 makes-second-requires c κs = search needs
 
 returns : tie.Need-returns
-unfolding secondStands
+unfolding secondStandsAt
 returns c = rw (sym (c .before .makes-second .ensures) ∙ not-true _ (c .if1 .taken))
 
 slot-in-requires : tie.Need-slot-in-requires
@@ -29,14 +29,14 @@ stands-as-requires : tie.Need-stands-as-requires
 stands-as-requires c κs = search needs
 
 returns-2 : tie.Need-returns-2
-unfolding secondStands
+unfolding secondStandsAt
 returns-2 c = rw (sym (c .before .before .before .before .before .before .before .makes-second .ensures) ∙ not-false _ (c .before .before .before .before .before .before .if1 .left), eq-eqb _ _ (c .before .if2 .taken), c .stands-as .ensures, c .before .before .before .second-made .ensures, c .before .before .before .before .slot-in .ensures)
 
 stands-as-requires-2 : tie.Need-stands-as-requires-2
 stands-as-requires-2 c κs = search needs
 
 returns-3 : tie.Need-returns-3
-unfolding secondStands
+unfolding secondStandsAt
 returns-3 c = rw (sym (c .before .before .before .before .before .before .before .makes-second .ensures) ∙ not-false _ (c .before .before .before .before .before .before .if1 .left), ne-eqb _ _ (c .before .if2 .left), c .stands-as2 .ensures, c .before .before .before .second-made .ensures, c .before .before .before .before .slot-in .ensures)
 
 pub second-stands-spec : {M : Type 1} → statement M
