@@ -1,5 +1,5 @@
 -- What the finder and the helpers promise, of the net that the image stands for.
--- In order: an answer's number (`refusal-of`), and a check that holds refuses nothing (`passes`, `not-refused`); a found tuple (`Finds`), and the done
+-- In order: an answer's number (`refusal-of`, `done-zero`), and a check that holds refuses nothing (`passes`, `not-refused`); a found tuple (`Finds`), and the done
 -- finder's key is one (`found-least`); nothing is found exactly when nothing meets (`nothing-found`); a refusal's key is none (`refused-none`); a
 -- forward step with the tuple found is not refused for it (`found-steps`, `found-no-refusal`); the least free key (`key-free`, `key-none`) and the
 -- least absent locality (`locality-absent`, `locality-none`).
@@ -33,8 +33,6 @@ use Rattle.requests.specs.Requests.{answerOf, number, isDone, asked}
 use Rattle.requests.specs.declared.Request.{Request}
 use Rattle.requests.specs.declared.Answer.{Answer}
 use Rattle.requests.specs.declared.Answer.the-variants as Answer
-use Rattle.step.specs.Laws.{done-zero}
-use Rattle.step.specs.Forward.{forwardAnswer}
 use Rattle.finder.specs.Least.{leastOrNone, Least, least-split, given-least, given-none, given-same}
 use Rattle.finder.specs.Finder.{meeting, beforeSearch, finderChecks, leastMeeting, foundOf}
 use Rattle.finder.specs.Helpers.{freeKey, isAbsent, absentLocality}
@@ -57,6 +55,10 @@ refusal-of (suc (suc (suc (suc (suc (suc (suc (suc (suc zero))))))))) c l e = e
 refusal-of (suc (suc (suc (suc (suc (suc (suc (suc (suc (suc zero)))))))))) c l e = e
 refusal-of (suc (suc (suc (suc (suc (suc (suc (suc (suc (suc (suc zero))))))))))) c l e = e
 refusal-of (suc (suc (suc (suc (suc (suc (suc (suc (suc (suc (suc (suc m)))))))))))) c l e = absurd (omega (arith, l, e))
+
+-- a done answer is that of no refusal
+pub done-zero : (m : ℕ) → isDone (answerOf m) ≡ true → m ≡ 0
+done-zero m h = refusal-of m 0 (omega arith) (eqb-true (number (answerOf m)) 0 h)
 
 -- each check with this number holds
 abbrev pub passes : ℕ → List Check → Bool
@@ -169,14 +171,12 @@ module _ (s : Script) (n : Images.Net) (r : Request) (done : isDone (foundOf s n
       let does = uses (A.act (rolledBy s) (view s n) (asked r)) in
       (tells does _ (λ u. finds-there (rolledBy s) (view s n) (asked r) it), tells does _ (λ u. it .matches))
 
-  -- so it gets neither answer
-  pub found-no-refusal : (forwardAnswer s n r ≡ Answer.NoTuple → ⊥) × (forwardAnswer s n r ≡ Answer.NoMatch → ⊥)
-  unfolding forwardAnswer forwardChecks
+  -- so neither is the number of its refusal
+  pub found-no-refusal : (refusal (forwardChecks (rolledBy s) (view s n) (asked r)) ≡ 9 → ⊥) × (refusal (forwardChecks (rolledBy s) (view s n) (asked r)) ≡ 10 → ⊥)
+  unfolding forwardChecks
   found-no-refusal =
-      let cs = forwardChecks (rolledBy s) (view s n) (asked r) in (
-        λ e. not-refused cs 9 (λ z. omega (arith, z)) (rw (found-steps .0)) (refusal-of (refusal cs) 9 (omega arith) (ap number e)),
-        λ e. not-refused cs 10 (λ z. omega (arith, z)) (rw (found-steps .1)) (refusal-of (refusal cs) 10 (omega arith) (ap number e)),
-      )
+      let cs = forwardChecks (rolledBy s) (view s n) (asked r) in
+      (not-refused cs 9 (λ z. omega (arith, z)) (rw (found-steps .0)), not-refused cs 10 (λ z. omega (arith, z)) (rw (found-steps .1)))
 
 -- ---- the helpers
 

@@ -1,136 +1,113 @@
--- `find` meets its contract. The loop's invariant: no tuple with a key below `t` meets. Assumes nothing.
-use mathlib.Core.Path.{_≡_, sym, _∙_}
-use mathlib.Core.Bool.{false}
-use Prim.Native.Nat.{ℕ, _-_, _<_, _≤_}
+-- `find` meets its contract: the first check that does not hold ends it. Assumes nothing.
+use mathlib.Core.Path.{_∙_, sym}
 use native.Mathlib.Omega.{arith}
 use denote.Ref.{now}
-use borrow.Author.Count.{below-more}
-use Rattle.images.specs.Net.{slotAt}
-use Rattle.images.specs.Read.{scriptOf, netOf}
-use Rattle.images.specs.Round.{shaped-script}
-use Rattle.step.specs.Tests.{holds-true, fails-false}
-use Rattle.finder.specs.Searched.{meetsAt, seen, not-searched, searched-to, searched-all}
+use Rattle.images.specs.Read.{netOf}
+use Rattle.finder.specs.Searched.{key-below, node-below, no-key, no-live-process, no-node, at-node}
 use borrow.Author.Needs.{needs}
 use Rattle.finder.proofs.find.Statement.{statement}
 use Rattle.finder.proofs.find.Tie as tie
 use Rattle.finder.proofs.find.Reads as reads
 use Rattle.finder.proofs.find.Lts as lts
-use Rattle.finder.proofs.finder_answer.Reads as finder-answer-reads
-use Rattle.finder.proofs.meets_at.Reads as meets-at-reads
+use Rattle.finder.proofs.find_at.Reads as find-at-reads
 use Rattle.finder.proofs.refused.Reads as refused-reads
-use Rattle.images.proofs.net_image.present_in.Reads as present-in-reads
 use Rattle.images.proofs.net_image.slot_at.Reads as slot-at-reads
-use Rattle.images.proofs.net_image.slot_in.Reads as slot-in-reads
-use Rattle.images.proofs.script_image.node_in.Reads as node-in-reads
-use Rattle.products.proofs.target_of.Reads as target-of-reads
-use Rattle.step.proofs.checks.all_hold.Reads as all-hold-reads
+use Rattle.names.proofs.Key.of_byte.Reads as Key-of-byte-reads
+use Rattle.names.proofs.Node.of_byte.Reads as Node-of-byte-reads
 
-abbrev Inv-loop : tie.InvT-loop
-Inv-loop script net a vars l t₀ t = (t ≤ 64) × ((j : ℕ) → j < t → meetsAt a vars l (slotAt (netOf net) j) ≡ false)
+of-byte-requires : tie.Need-of-byte-requires
+of-byte-requires c κs = search needs
 
-abbrev μ-loop : tie.MeasureT-loop
-μ-loop script net a vars l t₀ t = 64 - t
+enum-known-named : tie.Need-enum-known-named
+enum-known-named c = search needs
 
-slot-in-requires : tie.Need-slot-in-requires Inv-loop μ-loop
-slot-in-requires c κs = search needs
-
-node-in-requires : tie.Need-node-in-requires Inv-loop μ-loop
-node-in-requires c κs = search needs
-
-present-in-requires : tie.Need-present-in-requires Inv-loop μ-loop
-present-in-requires c κs = search needs
-
-finder-answer-requires : tie.Need-finder-answer-requires Inv-loop μ-loop
-finder-answer-requires c κs = search needs
-
-all-hold-requires : tie.Need-all-hold-requires Inv-loop μ-loop
-all-hold-requires c κs = search needs
-
-enum-told : tie.Need-enum-told Inv-loop μ-loop
+enum-told : tie.Need-enum-told
 enum-told c = search needs
 
-enum-told-2 : tie.Need-enum-told-2 Inv-loop μ-loop
-enum-told-2 c = search needs
-
-refused-requires : tie.Need-refused-requires Inv-loop μ-loop
+refused-requires : tie.Need-refused-requires
 refused-requires c κs = search needs
 
-returns : tie.Need-returns Inv-loop μ-loop
-returns c =
-    c .refused .ensures ∙
-    not-searched (scriptOf (now (c .before .before .before .before .before .before .before .before .before .before .before .args .script))) (shaped-script (now (c .before .before .before .before .before .before .before .before .before .before .before .args .script)) (λ i. c .before .before .before .before .before .before .before .before .before .before .shared-slice-known .given i .fits) .nodes) (netOf (now (c .before .before .before .before .before .before .before .before .before .before .before .args .net))) (c .before .before .before .before .before .before .before .before .before .before .before .args .key) _ _ _
-    (c .before .before .before .before .before .before .before .before .slot-in .ensures) (c .before .before .before .before .before .before .node-in .ensures) (c .before .before .before .before .before .present-in .ensures) _ (c .before .before .before .before .finder-answer .ensures)
-    (fails-false _ (sym (c .before .before .before .all-hold .ensures) ∙ c .before .enum-told2 .given .1))
+returns : tie.Need-returns
+returns c = c .refused .ensures ∙ no-key (now (c .before .before .before .before .before .before .args .script)) (netOf (now (c .before .before .before .before .before .before .args .net))) (c .before .before .before .before .before .before .args .key) (sym (c .before .before .before .of-byte .ensures) ∙ c .before .enum-told .given .1)
 
-target-of-requires : tie.Need-target-of-requires Inv-loop μ-loop
-target-of-requires c κs = search needs
-
-loop-holds : tie.Need-loop-holds Inv-loop μ-loop
-loop-holds c = (search needs, λ j h. absurd (omega (arith, h)))
-
-cast-slot-at : tie.Need-cast-slot-at Inv-loop μ-loop
+cast-slot-at : tie.Need-cast-slot-at
 cast-slot-at c = search needs
 
-slot-at-requires : tie.Need-slot-at-requires Inv-loop μ-loop
-slot-at-requires c κs = search needs
+slot-at-requires : tie.Need-slot-at-requires
+slot-at-requires c κs = (c .before .before .before .before .before .before .before .pre .1, key-below (c .before .before .before .before .before .before .before .args .key .0) _ (sym (c .before .before .before .before .of-byte .ensures) ∙ c .before .before .named .given .1))
 
-meets-at-requires : tie.Need-meets-at-requires Inv-loop μ-loop
-meets-at-requires c κs = search needs
-
-returns-2 : tie.Need-returns-2 Inv-loop μ-loop
-returns-2 c =
-    let w = c .before .before .before .before .loop in
-    searched-to (scriptOf (now (c .before .before .before .before .before .before .before .before .before .before .before .before .before .before .before .before .before .args .script))) (shaped-script (now (c .before .before .before .before .before .before .before .before .before .before .before .before .before .before .before .before .before .args .script)) (λ i. c .before .before .before .before .before .before .before .before .before .before .before .before .before .before .before .before .shared-slice-known .given i .fits) .nodes) (netOf (now (c .before .before .before .before .before .before .before .before .before .before .before .before .before .before .before .before .before .args .net))) (c .before .before .before .before .before .before .before .before .before .before .before .before .before .before .before .before .before .args .key) _ _ _
-    (c .before .before .before .before .before .before .before .before .before .before .before .before .before .before .slot-in .ensures) (c .before .before .before .before .before .before .before .before .before .before .before .before .node-in .ensures) (c .before .before .before .before .before .before .before .before .before .before .before .present-in .ensures) _ (c .before .before .before .before .before .before .before .before .before .before .finder-answer .ensures)
-    (holds-true _ (sym (c .before .before .before .before .before .before .before .before .before .all-hold .ensures) ∙ c .before .before .before .before .before .before .before .enum-told .given .1)) _ (c .before .before .before .before .before .target-of .ensures)
-    (w .t) (omega (arith, c .before .before .before .loop-test .taken)) (w .inv .1) (seen (netOf (now (c .before .before .before .before .before .before .before .before .before .before .before .before .before .before .before .before .before .args .net))) _ _ _ (w .t) _ (c .before .before .slot-at .ensures) _ _ (c .before .meets-at .ensures) (c .if1 .taken))
-
-add-t : tie.Need-add-t Inv-loop μ-loop
-add-t c = search needs
-
-loop-less : tie.Need-loop-less Inv-loop μ-loop
-loop-less c = omega (arith, c .before .before .before .loop-test .taken)
-
-loop-again : tie.Need-loop-again Inv-loop μ-loop
-loop-again c =
-    let w = c .before .before .before .before .loop in
-    (omega (arith, c .before .before .before .loop-test .taken), below-more _ (w .t) (w .inv .1) (seen (netOf (now (c .before .before .before .before .before .before .before .before .before .before .before .before .before .before .before .before .before .args .net))) _ _ _ (w .t) _ (c .before .before .slot-at .ensures) _ _ (c .before .meets-at .ensures) (c .if1 .left)))
-
-refused-requires-2 : tie.Need-refused-requires-2 Inv-loop μ-loop
+refused-requires-2 : tie.Need-refused-requires-2
 refused-requires-2 c κs = search needs
 
-returns-3 : tie.Need-returns-3 Inv-loop μ-loop
-returns-3 c =
-    let w = c .before .before .loop in
-    c .refused2 .ensures ∙
-    searched-all (scriptOf (now (c .before .before .before .before .before .before .before .before .before .before .before .before .before .before .before .args .script))) (shaped-script (now (c .before .before .before .before .before .before .before .before .before .before .before .before .before .before .before .args .script)) (λ i. c .before .before .before .before .before .before .before .before .before .before .before .before .before .before .shared-slice-known .given i .fits) .nodes) (netOf (now (c .before .before .before .before .before .before .before .before .before .before .before .before .before .before .before .args .net))) (c .before .before .before .before .before .before .before .before .before .before .before .before .before .before .before .args .key) _ _ _
-    (c .before .before .before .before .before .before .before .before .before .before .before .before .slot-in .ensures) (c .before .before .before .before .before .before .before .before .before .before .node-in .ensures) (c .before .before .before .before .before .before .before .before .before .present-in .ensures) _ (c .before .before .before .before .before .before .before .before .finder-answer .ensures)
-    (holds-true _ (sym (c .before .before .before .before .before .before .before .all-hold .ensures) ∙ c .before .before .before .before .before .enum-told .given .1)) _ (c .before .before .before .target-of .ensures)
-    (λ j h. w .inv .1 j (omega (arith, h, c .before .loop-test .left)))
+returns-2 : tie.Need-returns-2
+returns-2 c = c .refused2 .ensures ∙ no-live-process (now (c .before .before .before .before .before .before .before .before .before .before .before .args .script)) (netOf (now (c .before .before .before .before .before .before .before .before .before .before .before .args .net))) (c .before .before .before .before .before .before .before .before .before .before .before .args .key) (sym (c .before .before .before .before .before .before .before .before .of-byte .ensures) ∙ c .before .before .before .before .before .before .named .given .1) (c .before .before .before .slot-at .ensures) (c .before .if1 .taken)
+
+of-byte-requires-2 : tie.Need-of-byte-requires-2
+of-byte-requires-2 c κs = search needs
+
+enum-known-read : tie.Need-enum-known-read
+enum-known-read c = search needs
+
+enum-told-2 : tie.Need-enum-told-2
+enum-told-2 c = search needs
+
+refused-requires-3 : tie.Need-refused-requires-3
+refused-requires-3 c κs = search needs
+
+returns-3 : tie.Need-returns-3
+returns-3 c = c .refused3 .ensures ∙ no-node (now (c .before .before .before .before .before .before .before .before .before .before .before .before .before .before .args .script)) (netOf (now (c .before .before .before .before .before .before .before .before .before .before .before .before .before .before .args .net))) (c .before .before .before .before .before .before .before .before .before .before .before .before .before .before .args .key) (sym (c .before .before .before .before .before .before .before .before .before .before .before .of-byte .ensures) ∙ c .before .before .before .before .before .before .before .before .before .named .given .1) (c .before .before .before .before .before .before .slot-at .ensures) (c .before .before .before .before .if1 .left) (sym (c .before .before .before .of-byte2 .ensures) ∙ c .before .enum-told2 .given .1)
+
+cast-from : tie.Need-cast-from
+cast-from c = search needs
+
+mul-from : tie.Need-mul-from
+mul-from c = search needs
+
+add-from : tie.Need-add-from
+add-from c = search needs
+
+add-find-at : tie.Need-add-find-at
+add-find-at c = search needs
+
+sub-find-at : tie.Need-sub-find-at
+sub-find-at c = search needs
+
+part-find-at-start : tie.Need-part-find-at-start
+part-find-at-start c = search needs
+
+part-find-at-end : tie.Need-part-find-at-end
+part-find-at-end c = omega (arith, node-below (c .before .before .before .before .before .before .before .slot-at .result .node .0) _ (sym (c .before .before .before .before .of-byte2 .ensures) ∙ c .before .before .read .given .1), c .before .before .before .before .before .before .before .before .before .before .before .before .before .before .before .pre .0)
+
+find-at-requires : tie.Need-find-at-requires
+find-at-requires c κs = search needs
+
+returns-4 : tie.Need-returns-4
+returns-4 c = at-node (now (c .before .before .before .before .before .before .before .before .before .before .before .before .before .before .before .before .before .args .script)) (netOf (now (c .before .before .before .before .before .before .before .before .before .before .before .before .before .before .before .before .before .args .net))) (c .before .before .before .before .before .before .before .before .before .before .before .before .before .before .before .before .before .args .key) (sym (c .before .before .before .before .before .before .before .before .before .before .before .before .before .before .of-byte .ensures) ∙ c .before .before .before .before .before .before .before .before .before .before .before .before .named .given .1) (c .before .before .before .before .before .before .before .before .before .slot-at .ensures) (c .before .before .before .before .before .before .before .if1 .left) (sym (c .before .before .before .before .before .before .of-byte2 .ensures) ∙ c .before .before .before .before .read .given .1) (c .find-at .ensures)
 
 pub find-spec : {M : Type 1} → statement M
 find-spec =
     tie.close
     (tie.spec
-    Inv-loop
-    μ-loop
-    slot-in-requires
-    node-in-requires
-    present-in-requires
-    finder-answer-requires
-    all-hold-requires
+    of-byte-requires
+    enum-known-named
     enum-told
-    enum-told-2
     refused-requires
     returns
-    target-of-requires
-    loop-holds
     cast-slot-at
     slot-at-requires
-    meets-at-requires
-    returns-2
-    add-t
-    loop-less
-    loop-again
     refused-requires-2
-    returns-3)
+    returns-2
+    of-byte-requires-2
+    enum-known-read
+    enum-told-2
+    refused-requires-3
+    returns-3
+    cast-from
+    mul-from
+    add-from
+    add-find-at
+    sub-find-at
+    part-find-at-start
+    part-find-at-end
+    find-at-requires
+    returns-4)
