@@ -6,6 +6,7 @@ use native.Mathlib.Omega.{arith}
 use borrow.Author.Count.{below-none, below-more}
 use borrow.Author.Tests.{not-true, not-false}
 use Rattle.laws.specs.Checks.{all-of, all-not}
+use Rattle.names.specs.Names.{keyCount}
 use Rattle.images.specs.Read.{netOf, scriptOf}
 use Rattle.agreement.specs.Agreement.{slotAgrees}
 use Rattle.agreement.specs.Looked.{no-event, event-told}
@@ -18,10 +19,10 @@ use Rattle.agreement.proofs.event_agrees.Reads as event-agrees-reads
 use Rattle.images.proofs.net_image.slot_at.Reads as slot-at-reads
 
 abbrev Inv-loop : tie.InvT-loop
-Inv-loop script net k₀ k = (k ≤ 64) × ((i : ℕ) → i < k → slotAgrees (scriptOf script) (netOf net) i ≡ true)
+Inv-loop script net k₀ k = (k ≤ keyCount) × ((i : ℕ) → i < k → slotAgrees (scriptOf script) (netOf net) i ≡ true)
 
 abbrev μ-loop : tie.MeasureT-loop
-μ-loop script net k₀ k = 64 - k
+μ-loop script net k₀ k = keyCount - k
 
 loop-holds : tie.Need-loop-holds Inv-loop μ-loop
 loop-holds c = (search needs, below-none _)
@@ -48,7 +49,7 @@ returns : tie.Need-returns Inv-loop μ-loop
 returns c =
     let turn = c .before .before .before .before .before .before in
     let event = c .before .before in
-    sym (all-not 64 _ (turn .loop .k) (c .before .before .before .before .before .loop-test .taken)
+    sym (all-not keyCount _ (turn .loop .k) (c .before .before .before .before .before .loop-test .taken)
     (event-told _ _ _ (event .before .before .slot-at .ensures) (event .if1 .left) (c .before .event-agrees .ensures) (not-true _ (c .if2 .taken))))
 
 add-k-2 : tie.Need-add-k-2 Inv-loop μ-loop
@@ -68,8 +69,8 @@ loop-again-2 c =
 
 returns-2 : tie.Need-returns-2 Inv-loop μ-loop
 returns-2 c =
-    let e : c .before .loop .k ≡ 64 = omega arith in
-    sym (all-of 64 _ (rw e at (c .before .loop .inv .1)))
+    let e : c .before .loop .k ≡ keyCount = omega arith in
+    sym (all-of keyCount _ (rw e at (c .before .loop .inv .1)))
 
 pub events-agree-spec : {M : Type 1} → statement M
 events-agree-spec =

@@ -5,6 +5,7 @@ use Prim.Native.Nat.{ℕ, _-_, _<_, _≤_}
 use native.Mathlib.Omega.{arith}
 use denote.Ref.{now}
 use borrow.Author.Count.{below-more}
+use Rattle.names.specs.Names.{keyCount}
 use Rattle.images.specs.Net.{isFree, slotAt}
 use Rattle.images.specs.Read.{netOf}
 use Rattle.images.specs.declared.Slot.{Slot}
@@ -18,10 +19,10 @@ use Rattle.images.proofs.net_image.is_free.Reads as is-free-reads
 use Rattle.images.proofs.net_image.slot_at.Reads as slot-at-reads
 
 abbrev Inv-loop : tie.InvT-loop
-Inv-loop net k₀ k = (k ≤ 64) × ((j : ℕ) → j < k → isFree (slotAt (netOf net) j) ≡ false)
+Inv-loop net k₀ k = (k ≤ keyCount) × ((j : ℕ) → j < k → isFree (slotAt (netOf net) j) ≡ false)
 
 abbrev μ-loop : tie.MeasureT-loop
-μ-loop net k₀ k = 64 - k
+μ-loop net k₀ k = keyCount - k
 
 loop-holds : tie.Need-loop-holds Inv-loop μ-loop
 loop-holds c = (search needs, λ j h. absurd (omega (arith, h)))
