@@ -11,9 +11,9 @@ use mathlib.Core.Path.{_≡_, refl, ap, ap₂, sym, _∙_, subst}
 use mathlib.Core.Bool.{Bool, true, false, _&&_, _||_, not, and-false}
 use mathlib.Core.List.{List, [], _∷_}
 use native.Mathlib.Omega.{arith}
-use lib.Dec.{eqb, ltb, leb}
+use lib.Dec.{eqb, ltb}
 use lib.ListN.{length, getD, length-set, List·getD-eq-default}
-use borrow.Author.Tests.{eqb-true, eqb-false, eq-eqb, ne-eqb, ltb-true, ltb-false, lt-ltb, le-ltb, lt-leb, not-true}
+use borrow.Author.Tests.{eqb-true, eqb-false, eq-eqb, ne-eqb, ltb-true, ltb-false, lt-ltb, le-ltb, not-true}
 use Rattle.laws.specs.Choice.{pick, cases, clash, and-left, and-right, and-both, or-left, or-right, or-cases, _⇒_, told, tells, agree}
 use Rattle.laws.specs.Checks.{all, all-of, all-at}
 use Rattle.laws.specs.Lists.{length-tab}
@@ -30,12 +30,12 @@ use Rattle.images.specs.declared.Net as Images
 use Rattle.matching.specs.Evaluate.{isFormal}
 use Rattle.matching.specs.Match.{meets, withVariable, bindOne, bindUpTo, bound}
 use Rattle.nets.specs.Rules
-use Rattle.nets.specs.Rules.{acts, uses, aims, Second, nothing, aTuple, aProcess, secondOf, isThere}
+use Rattle.nets.specs.Rules.{uses, Second, nothing, aTuple, aProcess, secondOf}
 use Rattle.nets.specs.Net.{live, tuple, isPast, isLiveTuple, Slot, Net, fresh, forget, events, madeKey}
 use Rattle.nets.specs.Rule.{met, besides, product}
 use Rattle.nets.specs.Accepting.{placed, fitting, ruled, sameSlot, agreed}
 use Rattle.products.specs.Body.{Body, bodyOf, liveProcess, liveTuple}
-use Rattle.products.specs.Products.{isStep, isOut, isEval, isSplit, isNewloc, meetsTuple, makesSecond, hasTarget, targetBy, targetThere, readyBy, target, fits, variablesAfter, referencesAfter, continuedBy, tupleBy, processBy, secondBy, secondSlot}
+use Rattle.products.specs.Products.{isStep, isOut, isEval, isSplit, isNewloc, meetsTuple, makesSecond, targetBy, targetThere, readyBy, target, fits, variablesAfter, referencesAfter, continuedBy, tupleBy, processBy, secondBy, secondSlot}
 use Rattle.rules.specs.Acts.{acts-is, uses-is, aims-is, newloc-is, there-is}
 use Rattle.rules.specs.Instance.{actOf, makeable, rulesOf, next}
 use Rattle.rules.specs.View.{kindAs, past-is, slotView, view, view-slot, view-with, view-present}

@@ -1,9 +1,10 @@
 -- The tests of an event as the code makes them: with the bytes of its node and of its net in hand, and where it acted. They are those of
 -- `Agreement`. Nothing here must be believed.
 -- In order: the rule applies (`appliesAt`) and the second thing stands (`secondStandsAt`), of an event that acted at a locality; all of an event
--- in a net (`agreesIn`). A name that was read is below its count (`used-below`, `node-below`). Each is told by the answers to its tests, in their order: the tuple that it used (`no-key` to `matches`), its rule (`no-step` to
--- `tuple-tells`), the event (`unready` to `second-tells`), since what check 7 found is where it acted (`applies-is`, `second-is`); by the node that it is at
--- (`at-no-node`, `at-node`); a slot agrees where it holds no event (`no-event`), and else as its event does (`event-told`).
+-- in a net (`agreesIn`). A name that was read is below its count (`key-below`, `node-below`). Each is told by the answers to its tests, in their
+-- order: the tuple that it used (`no-key` to `matches`), its rule (`no-step` to `tuple-tells`), the event (`unready` to `second-tells`), since what
+-- check 7 found is where it acted (`applies-is`, `second-is`); by the node that it is at (`at-no-node`, `at-node`); a slot agrees where it holds no event
+-- (`no-event`), and else as its event does (`event-told`).
 -- Assumes nothing.
 use Prim.Native.Nat.{ℕ, _+_, _-_, _*_, _<_}
 use mathlib.Core.Path.{_≡_, ap, sym, _∙_}
@@ -58,8 +59,8 @@ agreesIn a k x n = agreesBy a (n .present) k x (slotWith n (x .used)) (slotWith 
 
 -- ---- names that were read
 
-pub used-below : (b : ℕ) (u : Key) → keyOf b ≡ KeyRead.Key u → u .0 < keyCount
-used-below b u e =
+pub key-below : (b : ℕ) (u : Key) → keyOf b ≡ KeyRead.Key u → u .0 < keyCount
+key-below b u e =
     let found = key-read b u (sym e) in
     ltb-true (u .0) keyCount (ap (λ (k : Key). ltb (k .0) keyCount) (found .0) ∙ found .1)
 

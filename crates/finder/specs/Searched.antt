@@ -40,7 +40,7 @@ use Rattle.nets.specs.Rules.{Rules, uses, aims}
 use Rattle.nets.specs.Net as N
 use Rattle.nets.specs.Net.{isLive}
 use Rattle.products.specs.Products.{isOut, isEval, meetsTuple, targetBy, targetThere, readyBy, fits}
-use Rattle.products.specs.Acting.{actsAt, readiness, ready-acts, unset-false, acts-there, acts-target}
+use Rattle.products.specs.Acting.{readiness, ready-acts, unset-false, acts-target}
 use Rattle.products.specs.declared.Readiness.the-variants as Readiness
 use Rattle.rules.specs.Instance.{actOf, rulesOf}
 use Rattle.rules.specs.Acts.{uses-is, aims-is}

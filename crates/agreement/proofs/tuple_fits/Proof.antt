@@ -4,7 +4,7 @@ use native.Mathlib.Omega.{arith}
 use denote.Ref.{now}
 use borrow.Author.Tests.{not-true, not-false}
 use Rattle.images.specs.Read.{netOf}
-use Rattle.agreement.specs.Looked.{used-below, no-key, no-tuple, elsewhere, differs, matches}
+use Rattle.agreement.specs.Looked.{key-below, no-key, no-tuple, elsewhere, differs, matches}
 use borrow.Author.Needs.{needs}
 use Rattle.agreement.proofs.tuple_fits.Statement.{statement}
 use Rattle.agreement.proofs.tuple_fits.Tie as tie
@@ -31,7 +31,7 @@ cast-i : tie.Need-cast-i
 cast-i c = search needs
 
 slot-at-requires : tie.Need-slot-at-requires
-slot-at-requires c κs = (c .before .before .before .before .before .before .before .pre .1, used-below (c .before .before .before .before .before .before .before .args .x .used .0) _ (sym (c .before .before .before .before .of-byte .ensures) ∙ c .before .before .read .given .1))
+slot-at-requires c κs = (c .before .before .before .before .before .before .before .pre .1, key-below (c .before .before .before .before .before .before .before .args .x .used .0) _ (sym (c .before .before .before .before .of-byte .ensures) ∙ c .before .before .read .given .1))
 
 is-tuple-requires : tie.Need-is-tuple-requires
 is-tuple-requires c κs = search needs
@@ -58,7 +58,7 @@ part-match-tuple-start : tie.Need-part-match-tuple-start
 part-match-tuple-start c = search needs
 
 part-match-tuple-end : tie.Need-part-match-tuple-end
-part-match-tuple-end c = omega (arith, used-below (c .before .before .before .before .before .before .before .before .before .before .before .before .before .before .args .x .used .0) _ (sym (c .before .before .before .before .before .before .before .before .before .before .before .of-byte .ensures) ∙ c .before .before .before .before .before .before .before .before .before .read .given .1), c .before .before .before .before .before .before .before .before .before .before .before .before .before .before .pre .1)
+part-match-tuple-end c = omega (arith, key-below (c .before .before .before .before .before .before .before .before .before .before .before .before .before .before .args .x .used .0) _ (sym (c .before .before .before .before .before .before .before .before .before .before .before .of-byte .ensures) ∙ c .before .before .before .before .before .before .before .before .before .read .given .1), c .before .before .before .before .before .before .before .before .before .before .before .before .before .before .pre .1)
 
 match-tuple-requires : tie.Need-match-tuple-requires
 match-tuple-requires c κs = search needs
