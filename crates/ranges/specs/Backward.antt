@@ -39,7 +39,7 @@ use Rattle.requests.specs.Answers.{backwardChecks}
 use Rattle.requests.specs.Requests.{asked, isDone}
 use Rattle.requests.specs.declared.Request.{Request}
 use Rattle.step.specs.Change.{stepped, applied}
-use Rattle.step.specs.Backward.{backwardAnswer, backwardOther, presentBefore, backwardDone, undoneAt, backwardChange}
+use Rattle.step.specs.Backward.{backwardAnswer, backPut, backwardOther, presentBefore, backwardDone, undoneAt, backwardChange}
 use Rattle.step.specs.Laws.{done-zero, refused-stays}
 use Rattle.step.specs.Tested.{node-is}
 use Rattle.ranges.specs.Slots.{free-in-range, live-in-range, tuple-in-range, past-process, consumed-tuple, process-node, free-shaped, same-shaped}

@@ -43,11 +43,12 @@ use Rattle.requests.specs.Answers.{noPlaces, rollbackChecks, rollChecks}
 use Rattle.requests.specs.Requests.{asked, isDone, answerOf}
 use Rattle.requests.specs.declared.Request.{Request}
 use Rattle.requests.specs.declared.Answer.{Answer}
+use Rattle.step.specs.Lent.{Good}
 use Rattle.step.specs.Tested.{kind-is, node-is, no-node}
 use Rattle.step.specs.Laws.{done-zero}
 use Rattle.ranges.specs.Slots.{free-in-range, live-process, process-node}
 use Rattle.ranges.specs.Written.{InRange, slot-with, range-each}
-use Rattle.rollback.specs.Rollback.{Good, rollbackAnswer, rollAnswer}
+use Rattle.rollback.specs.Rollback.{rollbackAnswer, rollAnswer}
 
 -- the key that the node's reference holds, or none
 unfoldable pub heldBy : Action → Image.Slot → Key

@@ -1,8 +1,8 @@
 -- How the code undoes a closed set of events: one by one, each time the last key on which nothing that is left depends. In the end answer, count,
 -- touched and net are those of the set undone at once.
 --
--- In order: what is asked (`Asked`); `Rolling`, what each turn keeps; before the first turn (`rolling-first`); where a key is found, fewer turns were made
--- than there are keys (`rolling-few`), the key may be undone (`rolling-undoable`, `rolling-may`), and the next turn follows (`rolling-next`); where none is
+-- In order: what is asked (`Asked`); `Rolling`, what each turn keeps (its net is accepted: `net-accepted`); before the first turn (`rolling-first`); where a key is found, fewer turns were made
+-- than there are keys (`rolling-few`), the key may be undone (`rolling-undoable`), and the next turn follows (`rolling-next`); where none is
 -- found, all is done (`rolling-done`); the dependents of an event are what is asked for (`event-key`, `all-are`, `asked-all`).
 -- Assumes nothing.
 use mathlib.Core.Path.{_≡_, refl, sym, ap, ap₂, _∙_, fun-ext, subst}
@@ -32,12 +32,9 @@ use Rattle.names.specs.KeySets.{keys, isIn, excluding}
 use Rattle.names.specs.declared.Key.{Key}
 use Rattle.names.specs.declared.Keys.{Keys}
 use Rattle.names.specs.declared.Localities.{Localities}
-use Rattle.images.specs.Net.{netInRange, slotWith}
-use Rattle.images.specs.Read.{nodeWith}
+use Rattle.images.specs.Net.{netInRange}
 use Rattle.images.specs.Shape.{ShapedScript, ShapedNet}
-use Rattle.images.specs.declared.Action.{Action}
 use Rattle.images.specs.declared.Script.{Script}
-use Rattle.images.specs.declared.Slot.{Slot}
 use Rattle.images.specs.declared.Net as Images
 use Rattle.nets.specs.Net.{Net, events, depends, dependents}
 use Rattle.nets.specs.Events.{among, over}
@@ -54,15 +51,12 @@ use Rattle.traces.specs.Traced.{placed-used, event-in, edges-depend}
 use Rattle.dependents.specs.Marks.{markAt, marked, dependentMarks, lastOf}
 use Rattle.dependents.specs.Lasts.{last-there, last-none}
 use Rattle.dependents.specs.declared.Marks.{Marks}
+use Rattle.step.specs.Lent.{Good, done}
 use Rattle.step.specs.Change.{Change, applied}
-use Rattle.step.specs.Backward.{backwardChange, undoneBy}
-use Rattle.step.specs.Looked.{backward-found}
-use Rattle.requests.specs.Requests.{isDone}
-use Rattle.step.specs.Tests.{noneReads}
-use Rattle.step.specs.Laws.{Undoes, undo-promised, unread-undoable}
-use Rattle.step.specs.Backward as Step
-use Rattle.ranges.specs.Backward.{accepted-taken, backward-in-range, backward-shaped}
-use Rattle.rollback.specs.Rollback.{Good, done, undoneAll}
+use Rattle.step.specs.Backward.{undoneAt}
+use Rattle.step.specs.Undone.{undo-is, undo-touched}
+use Rattle.ranges.specs.Backward.{accepted-taken, undone-in-range, undone-shaped}
+use Rattle.rollback.specs.Rollback.{undoneAll}
 use Rattle.rollback.specs.Turns.{Turns, turns-first, turns-accepted, turns-undoable, turns-next, turns-touched, turns-count, turns-end, turns-all-touched}
 
 -- the events of the net as a word, and its rows
@@ -118,7 +112,7 @@ module _ (s : Script) (w : ShapedScript s) (n : Images.Net) (v : ShapedNet n) (r
       }
 
   module _ (turn : ℕ) (freed : Localities) (left : Keys) (net : Images.Net) (g : Rolling turn freed left net) where
-    net-accepted : Accepted (view s net)
+    pub net-accepted : Accepted (view s net)
     net-accepted = turns-accepted (rulesOf s .keys) U (view s n) ok (members all) (p .closed) (p .past) (g .turns)
 
     module _ (k : Key) (found : k ≡ key (lastOf rows keyCount left)) where
@@ -149,65 +143,44 @@ module _ (s : Script) (w : ShapedScript s) (n : Images.Net) (v : ShapedNet n) (r
         rolling-undoable =
             turns-undoable (rulesOf s .keys) U (view s n) ok (members all) (p .closed) (p .past) (g .turns) (k .0) found-last
 
-        module _ (x : Slot) (a : Action) (f h t : Slot) (is-x : x ≡ slotWith net k) (is-a : a ≡ nodeWith s (x .node))
-            (is-f : f ≡ slotWith net (x .first)) (is-h : h ≡ slotWith net (x .second)) (is-t : t ≡ slotWith net (x .used))
-            (c : Change) (is-c : c ≡ undoneBy a x f h t true (net .present) k) where
-          -- so no past read used what it made, and the change is the step's
-          change-is : c ≡ backwardChange s net (Step.undoing k)
-          change-is =
-              backward-found s (w .nodes) net (Step.undoing k) x a f h t true is-x is-a is-f is-h is-t
-              (sym
-              (ap (λ (z : Slot). noneReads s net (z .first) && noneReads s net (z .second)) is-x ∙
-              unread-undoable s w (p .good .script) net (g .shaped .slots) net-accepted k rolling-undoable))
-              c is-c
+        abbrev c : Change
+        c = undoneAt s net k
 
-          promised : Undoes s net k c
-          promised =
-              subst (λ (o : Change). Undoes s net k o) (sym change-is)
-              (undo-promised s w (p .good .script) net (g .shaped .slots) net-accepted k)
+        pub rolling-next : (more : Localities) → more ≡ localities (bitOr (freed .0) (c .touched .0)) → (rest : Keys) → rest ≡ excluding left k
+            → Rolling (turn + 1) more rest (applied net c)
+        rolling-next more is-more rest is-rest =
+            let below : k .0 < keyCount = ltb-true (k .0) keyCount there in
+            let viewed : view s (applied net c) ≡ undo (view s net) (k .0) = undo-is s w (p .good .script) net (g .shaped .slots) net-accepted k rolling-undoable in
+            let left-is : members rest ≡ members left ∖ only (k .0) = ap members is-rest ∙ members-excluding left (k .0) below in
+            record {
+              shaped = undone-shaped s net (g .shaped) k;
+              in-range = undone-in-range s net (g .in-range) (accepted-taken s (view s net) net-accepted) k (rolling-undoable .is-past);
+              ks = g .ks ++ (k .0 ∷ []);
+              turns =
+                  subst (λ (m : Net (rulesOf s)). Turns (rulesOf s .keys) U (view s n) (members all) (g .ks ++ (k .0 ∷ [])) m (members rest)) (sym viewed)
+                  (subst (λ (S : Set). Turns (rulesOf s .keys) U (view s n) (members all) (g .ks ++ (k .0 ∷ [])) (undo (view s net) (k .0)) S) (sym left-is)
+                  (turns-next (rulesOf s .keys) U (view s n) ok (members all) (p .closed) (p .past) (g .turns) (k .0) (found-last .member) rolling-undoable));
+              undone = ap (λ (j : ℕ). j + 1) (g .undone) ∙ sym (length-append (g .ks) (k .0 ∷ []));
+              word = ap (λ (z : Localities). z .0) is-more ∙ touched-word;
+              small = subst (λ (z : Keys). z .0 < 2 ^ keyCount) (sym is-rest) (excluding-lt keyCount (left .0) (k .0) (g .small));
+            }
+          where
+            before : Set
+            before = touchedBy (rulesOf s .keys) U (view s n) (g .ks)
 
-          -- which no check refuses
-          pub rolling-may : isDone (c .answer) ≡ true
-          rolling-may = promised .done rolling-undoable
+            now : Set
+            now = touched (view s net) (undo (view s net) (k .0))
 
-          pub rolling-next : (more : Localities) → more ≡ localities (bitOr (freed .0) (c .touched .0)) → (rest : Keys) → rest ≡ excluding left k
-              → (after : Images.Net) → after ≡ applied net c → Rolling (turn + 1) more rest after
-          rolling-next more is-more rest is-rest after is-after =
-              let after-is : after ≡ applied net (backwardChange s net (Step.undoing k)) = is-after ∙ ap (applied net) change-is in
-              let below : k .0 < keyCount = ltb-true (k .0) keyCount there in
-              let viewed : view s after ≡ undo (view s net) (k .0) = ap (view s) is-after ∙ promised .net rolling-undoable in
-              let left-is : members rest ≡ members left ∖ only (k .0) = ap members is-rest ∙ members-excluding left (k .0) below in
-              record {
-                shaped = subst ShapedNet (sym after-is) (backward-shaped s net (g .shaped) (Step.undoing k));
-                in-range =
-                    ap netInRange after-is ∙
-                    backward-in-range s net (g .in-range) (accepted-taken s (view s net) net-accepted) (Step.undoing k);
-                ks = g .ks ++ (k .0 ∷ []);
-                turns =
-                    subst (λ (m : Net (rulesOf s)). Turns (rulesOf s .keys) U (view s n) (members all) (g .ks ++ (k .0 ∷ [])) m (members rest)) (sym viewed)
-                    (subst (λ (S : Set). Turns (rulesOf s .keys) U (view s n) (members all) (g .ks ++ (k .0 ∷ [])) (undo (view s net) (k .0)) S) (sym left-is)
-                    (turns-next (rulesOf s .keys) U (view s n) ok (members all) (p .closed) (p .past) (g .turns) (k .0) (found-last .member) rolling-undoable));
-                undone = ap (λ (j : ℕ). j + 1) (g .undone) ∙ sym (length-append (g .ks) (k .0 ∷ []));
-                word = ap (λ (z : Localities). z .0) is-more ∙ touched-word;
-                small = subst (λ (z : Keys). z .0 < 2 ^ keyCount) (sym is-rest) (excluding-lt keyCount (left .0) (k .0) (g .small));
-              }
-            where
-              before : Set
-              before = touchedBy (rulesOf s .keys) U (view s n) (g .ks)
-
-              now : Set
-              now = touched (view s net) (undo (view s net) (k .0))
-
-              touched-word : bitOr (freed .0) (c .touched .0) ≡ wordOf localityCount (touchedBy (rulesOf s .keys) U (view s n) (g .ks ++ (k .0 ∷ [])))
-              touched-word =
-                  ap₂ bitOr (g .word) (promised .touched-word rolling-undoable) ∙
-                  wordOf-is localityCount (before ∪ now) (bitOr (wordOf localityCount before) (wordOf localityCount now))
-                  (or-lt localityCount (wordOf localityCount before) (wordOf localityCount now) (wordOf-lt localityCount before) (wordOf-lt localityCount now))
-                  (λ l b.
-                  member-or (wordOf localityCount before) (wordOf localityCount now) l ∙
-                  ap₂ (λ (y z : Bool). y || z) (wordOf-in localityCount before l b) (wordOf-in localityCount now l b)) ∙
-                  ap (wordOf localityCount)
-                  (sym (turns-touched (rulesOf s .keys) U (view s n) ok (members all) (p .closed) (p .past) (g .turns) (k .0)))
+            touched-word : bitOr (freed .0) (c .touched .0) ≡ wordOf localityCount (touchedBy (rulesOf s .keys) U (view s n) (g .ks ++ (k .0 ∷ [])))
+            touched-word =
+                ap₂ bitOr (g .word) (undo-touched s w (p .good .script) net (g .shaped .slots) net-accepted k rolling-undoable) ∙
+                wordOf-is localityCount (before ∪ now) (bitOr (wordOf localityCount before) (wordOf localityCount now))
+                (or-lt localityCount (wordOf localityCount before) (wordOf localityCount now) (wordOf-lt localityCount before) (wordOf-lt localityCount now))
+                (λ l b.
+                member-or (wordOf localityCount before) (wordOf localityCount now) l ∙
+                ap₂ (λ (y z : Bool). y || z) (wordOf-in localityCount before l b) (wordOf-in localityCount now l b)) ∙
+                ap (wordOf localityCount)
+                (sym (turns-touched (rulesOf s .keys) U (view s n) ok (members all) (p .closed) (p .past) (g .turns) (k .0)))
 
     -- ---- nothing is left
 

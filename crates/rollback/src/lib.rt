@@ -3,7 +3,6 @@
 ghost use mathlib.Core.Path.{_≡_};
 ghost use mathlib.Core.Bool.{true, not};
 ghost use lib.Bits.{bitOr};
-ghost use lib.ListN.{length};
 ghost use Rattle.order.specs.KeySets.{_∈_};
 ghost use Rattle.names.specs.Localities.{localities};
 ghost use Rattle.images.specs.Net.{netBytes};
@@ -13,20 +12,18 @@ ghost use Rattle.nets.specs.Net.{events};
 ghost use Rattle.rules.specs.View.{view};
 ghost use Rattle.products.specs.Products.{isSplit};
 ghost use Rattle.requests.specs.Checks.{refusal};
-ghost use Rattle.requests.specs.Requests.{answerOf, isDone};
+ghost use Rattle.requests.specs.Requests.{answerOf};
 ghost use Rattle.step.specs.Tests.{checked};
-ghost use Rattle.step.specs.InPlace.{changeBytes};
-ghost use Rattle.rollback.specs.Rollback.{Lent, told, lentAfter, toldDone, undoneAll, rolledBack, rollbackOutcome, rollOutcome};
+ghost use Rattle.step.specs.Lent.{Lent, told, lentAfter, toldDone};
+ghost use Rattle.rollback.specs.Rollback.{undoneAll, rolledBack, rollbackOutcome, rollOutcome};
 ghost use Rattle.rollback.specs.Undone.{Asked};
 ghost use Rattle.rollback.specs.Checked.{heldBy, isHeld, isRoll, rollbackTests, rollTests};
-ghost use Rattle.rollback.specs.InPlace.{undoneFor};
 use cycles::highest;
 use dependents::dependents;
 use dependents::keys_of;
 use dependents::none_after;
 use images::Action;
 use images::Slot;
-use images::net_image::present_in;
 use images::net_image::slot_in;
 use images::script_image::node_in;
 use names::Key;
@@ -38,37 +35,15 @@ use requests::Request;
 use requests::Told;
 use requests::refused;
 use step::Check;
+use step::backward::undo;
 use step::checks::all_hold;
 use step::checks::is_live;
 use step::checks::is_past;
 use step::checks::none_placed;
 use step::checks::told;
-use step::in_place::write_backward;
 use traces::deeds_of;
 use traces::events_of;
 use traces::rows_of;
-
-// ---- one event undone
-
-// The event of a key, which may be undone; so no past read used what it made. The localities at which a slot becomes free.
-fn undo_one(script: &[u8], net: &mut [u8], k: Key) -> Localities
-    requires { ⌜ (length (now script) ≡ 2064) × (length (now net) ≡ 3600) ⌝ }
-    requires { ⌜ isDone (undoneFor (scriptOf (now script)) (netOf (now net)) k .answer) ≡ true ⌝ }
-    ensures { λ r. ⌜ r ≡ undoneFor (scriptOf (now (script .entry))) (netOf (now (net .entry))) k .touched ⌝ }
-    ensures { λ _. ⌜ now (net .exit) ≡ changeBytes (undoneFor (scriptOf (now (script .entry))) (netOf (now (net .entry))) k) (now (net .entry)) ⌝ }
-{
-    let x = slot_in(net, k);
-    let node = x.node;
-    let a = node_in(script, node);
-    let one = x.first;
-    let first = slot_in(net, one);
-    let two = x.second;
-    let second = slot_in(net, two);
-    let used = x.used;
-    let t = slot_in(net, used);
-    let present = present_in(net);
-    write_backward(a, x, first, second, t, present, k, net)
-}
 
 // ---- a set of events, undone one by one
 
@@ -107,7 +82,7 @@ fn undo_each(script: &[u8], net: &mut [u8], rows: [Keys; Key::COUNT], all: Keys)
             to_come = to_come.without(k);
             continue;
         }
-        let freed = undo_one(script, net, k);
+        let freed = undo(script, net, k);
         touched = touched_too(touched, freed);
         left = left.without(k);
         to_come = left;

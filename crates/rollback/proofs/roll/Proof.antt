@@ -7,8 +7,10 @@ use Rattle.nets.specs.Net.{dependents}
 use Rattle.rules.specs.Roots.{rolledBy}
 use Rattle.rules.specs.View.{view}
 use Rattle.step.specs.Tests.{holds-true, fails-false}
-use Rattle.rollback.specs.Rollback.{by-yes, by-no, undone-done, rolledBack, rollAnswer, rollOutcome}
-use Rattle.rollback.specs.InPlace.{net-size, gives-same}
+use Rattle.step.specs.Lent.{by-yes, by-no}
+use Rattle.rollback.specs.Rollback.{undone-done, rolledBack, rollAnswer, rollOutcome}
+use Rattle.images.specs.Sizes.{net-sized}
+use Rattle.rollback.specs.InPlace.{gives-same}
 use Rattle.rollback.specs.Checked.{roll-found, roll-found-event, roll-found-held}
 use borrow.Author.Needs.{needs}
 use Rattle.rollback.proofs.roll.Statement.{statement}
@@ -24,7 +26,7 @@ use Rattle.rollback.proofs.undo_dependents.Reads as undo-dependents-rea
 use Rattle.step.proofs.checks.all_hold.Reads as all-hold-reads
 
 slot-in-requires : tie.Need-slot-in-requires
-slot-in-requires c κs = net-size _ (c .before .before .before .before .pre .formed)
+slot-in-requires c κs = net-sized _ (c .before .before .before .before .pre .formed)
 
 node-in-requires : tie.Need-node-in-requires
 node-in-requires c κs = c .before .before .before .before .before .before .pre .size

@@ -4,8 +4,9 @@ use denote.Ref.{now}
 use Rattle.images.specs.Read.{scriptOf, netOf}
 use Rattle.images.specs.Round.{shaped-script, shaped-net}
 use Rattle.step.specs.Tests.{holds-true, fails-false}
-use Rattle.rollback.specs.Rollback.{by-yes, by-no, undone-done, rolledBack, rollbackAnswer, rollbackOutcome}
-use Rattle.rollback.specs.InPlace.{net-size}
+use Rattle.step.specs.Lent.{by-yes, by-no}
+use Rattle.rollback.specs.Rollback.{undone-done, rolledBack, rollbackAnswer, rollbackOutcome}
+use Rattle.images.specs.Sizes.{net-sized}
 use Rattle.rollback.specs.Checked.{rollback-found, rollback-found-event}
 use borrow.Author.Needs.{needs}
 use Rattle.rollback.proofs.rollback.Statement.{statement}
@@ -20,7 +21,7 @@ use Rattle.rollback.proofs.undo_dependents.Reads as undo-dependents-rea
 use Rattle.step.proofs.checks.all_hold.Reads as all-hold-reads
 
 slot-in-requires : tie.Need-slot-in-requires
-slot-in-requires c κs = net-size _ (c .before .before .before .before .pre .formed)
+slot-in-requires c κs = net-sized _ (c .before .before .before .before .pre .formed)
 
 node-in-requires : tie.Need-node-in-requires
 node-in-requires c κs = c .before .before .before .before .before .before .pre .size

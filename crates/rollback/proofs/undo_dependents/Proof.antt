@@ -3,7 +3,8 @@ use denote.Ref.{now}
 use Rattle.images.specs.Read.{scriptOf, netOf}
 use Rattle.images.specs.Round.{shaped-script}
 use Rattle.rollback.specs.Undone.{event-key, all-are, asked-all}
-use Rattle.rollback.specs.InPlace.{net-size, gives-same}
+use Rattle.images.specs.Sizes.{net-sized}
+use Rattle.rollback.specs.InPlace.{gives-same}
 use borrow.Author.Needs.{needs}
 use Rattle.rollback.proofs.undo_dependents.Statement.{statement}
 use Rattle.rollback.proofs.undo_dependents.Tie as tie
@@ -17,13 +18,13 @@ use Rattle.traces.proofs.events_of.Reads as events-of-reads
 use Rattle.traces.proofs.rows_of.Reads as rows-of-reads
 
 deeds-of-requires : tie.Need-deeds-of-requires
-deeds-of-requires c κs = (c .before .before .before .pre .0 .size, net-size _ (c .before .before .before .pre .0 .formed))
+deeds-of-requires c κs = (c .before .before .before .pre .0 .size, net-sized _ (c .before .before .before .pre .0 .formed))
 
 events-of-requires : tie.Need-events-of-requires
-events-of-requires c κs = net-size _ (c .before .before .before .before .before .pre .0 .formed)
+events-of-requires c κs = net-sized _ (c .before .before .before .before .before .pre .0 .formed)
 
 rows-of-requires : tie.Need-rows-of-requires
-rows-of-requires c κs = net-size _ (c .before .before .before .before .before .before .before .pre .0 .formed)
+rows-of-requires c κs = net-sized _ (c .before .before .before .before .before .before .before .pre .0 .formed)
 
 dependents-requires : tie.Need-dependents-requires
 dependents-requires c κs = event-key (scriptOf (now (c .before .before .before .before .before .before .before .before .args .script))) (shaped-script (now (c .before .before .before .before .before .before .before .before .args .script)) (λ i. c .before .before .before .before .before .before .before .shared-slice-known .given i .fits)) (netOf (now (c .before .before .before .before .before .before .before .before .args .net))) (c .before .before .before .before .before .before .before .before .pre .0 .good) (c .before .before .before .before .before .before .before .before .args .e) (c .before .before .before .before .before .before .before .before .pre .1) _ (c .before .before .events-of .ensures)

@@ -3,17 +3,18 @@ use mathlib.Core.Path.{_≡_, refl, sym, _∙_}
 use Prim.Native.Nat.{_+_, _*_, _^_}
 use native.Mathlib.Omega.{arith}
 use denote.Ref.{now}
-use lib.ListN.{length}
 use borrow.Author.Tests.{not-true, not-false, lt-ltb}
 use borrow.Author.Needs.{needs}
 use Rattle.names.specs.Names.{keyCount, none, key}
 use Rattle.images.specs.Read.{scriptOf, netOf}
 use Rattle.images.specs.Round.{net-back, shaped-script, shaped-net}
 use Rattle.images.specs.Shape.{ShapedScript, ShapedNet}
+use Rattle.images.specs.Sizes.{net-sized}
 use Rattle.cycles.specs.Highest.{without-less, to-come-there}
 use Rattle.dependents.specs.Lasts.{Asking, asking-first, asking-here, asking-next, asking-done}
 use Rattle.rollback.specs.Undone.{Asked}
-use Rattle.rollback.specs.InPlace.{net-size, change-kept, RollingIn, in-first, in-few, in-may, in-next, in-done, turn-less}
+use Rattle.step.specs.Lent.{Lent}
+use Rattle.rollback.specs.InPlace.{RollingIn, in-first, in-form, in-good, in-few, in-undoable, in-next, in-done, turn-less}
 use Rattle.rollback.proofs.undo_each.Statement.{statement}
 use Rattle.rollback.proofs.undo_each.Tie as tie
 use Rattle.rollback.proofs.undo_each.Reads as reads
@@ -24,11 +25,11 @@ use Rattle.names.proofs.Keys.is_empty.Reads as is-empty-reads
 use Rattle.names.proofs.Keys.without.Reads as without-reads
 use Rattle.rollback.proofs.done.Reads as done-reads
 use Rattle.rollback.proofs.touched_too.Reads as touched-too-reads
-use Rattle.rollback.proofs.undo_one.Reads as undo-one-reads
+use Rattle.step.proofs.backward.undo.Reads as undo-reads
 
 abbrev Inv-loop : tie.InvT-loop
 Inv-loop script net₀ rows left₀ to-come₀ touched₀ undone₀ net left to-come touched undone =
-    (length net ≡ 3600) × Asking rows left to-come ×
+    Lent script net × Asking rows left to-come ×
     ((w : ShapedScript (scriptOf script)) (v : ShapedNet (netOf net₀)) (p : Asked (scriptOf script) (netOf net₀) rows left₀)
     → RollingIn (scriptOf script) w (netOf net₀) v rows left₀ p undone touched left net)
 
@@ -37,7 +38,7 @@ abbrev μ-loop : tie.MeasureT-loop
 
 loop-holds : tie.Need-loop-holds Inv-loop μ-loop
 loop-holds c = (
-  net-size _ (c .before .before .pre .0 .formed),
+  c .before .before .pre .0,
   asking-first _ _,
   λ w v p. in-first _ w _ v _ _ p (now (c .before .before .args .net)) (net-back (now (c .before .before .args .net)) (λ i. c .slice-known .given i .fits) (c .before .before .pre .0 .formed)) refl (search needs),
 )
@@ -73,8 +74,8 @@ loop-again c = (
   c .before .before .before .before .before .before .before .before .loop .inv .2,
 )
 
-undo-one-requires : tie.Need-undo-one-requires Inv-loop μ-loop
-undo-one-requires c κs =
+undo-requires : tie.Need-undo-requires Inv-loop μ-loop
+undo-requires c κs =
     let s = scriptOf (now (c .before .before .before .before .before .before .before .before .before .before .before .args .script)) in
     let w = shaped-script (now (c .before .before .before .before .before .before .before .before .before .before .before .args .script)) (λ i. c .before .before .before .before .before .before .before .before .before .before .shared-slice-known .given i .fits) in
     let v = shaped-net (now (c .before .before .before .before .before .before .before .before .before .before .before .args .net)) (λ i. c .before .before .before .before .before .before .before .before .before .slice-known .given i .fits) in
@@ -83,7 +84,7 @@ undo-one-requires c κs =
     let g = c .before .before .before .before .before .before .before .before .loop .inv .2 w v p in
     let below = c .before .before .before .before .before .highest .ensures .below in
     let found = asking-here (c .before .before .before .before .before .before .before .before .before .before .before .args .t3) _ _ (c .before .before .before .before .before .before .before .before .loop .inv .1) _ (c .before .before .before .before .before .highest .ensures) (sym (c .before .before .none-after .ensures) ∙ not-false _ (c .before .if2 .left)) in
-    ((c .before .before .before .before .before .before .before .before .before .before .before .pre .0 .size, c .before .before .before .before .before .before .before .before .loop .inv .0), in-may s w n v (c .before .before .before .before .before .before .before .before .before .before .before .args .t3) (c .before .before .before .before .before .before .before .before .before .before .before .args .all) p _ _ _ _ g _ found (lt-ltb _ keyCount below))
+    (c .before .before .before .before .before .before .before .before .loop .inv .0, in-undoable s w n v (c .before .before .before .before .before .before .before .before .before .before .before .args .t3) (c .before .before .before .before .before .before .before .before .before .before .before .args .all) p _ _ _ _ g _ found (lt-ltb _ keyCount below))
 
 touched-too-requires : tie.Need-touched-too-requires Inv-loop μ-loop
 touched-too-requires c κs = search needs
@@ -110,19 +111,28 @@ loop-less-2 c =
 
 loop-again-2 : tie.Need-loop-again-2 Inv-loop μ-loop
 loop-again-2 c =
+    let S = now (c .before .before .before .before .before .before .before .before .before .before .before .before .before .before .before .before .args .script) in
+    let w = shaped-script S (λ i. c .before .before .before .before .before .before .before .before .before .before .before .before .before .before .before .shared-slice-known .given i .fits) in
+    let v = shaped-net (now (c .before .before .before .before .before .before .before .before .before .before .before .before .before .before .before .before .args .net)) (λ i. c .before .before .before .before .before .before .before .before .before .before .before .before .before .before .slice-known .given i .fits) in
+    let p = c .before .before .before .before .before .before .before .before .before .before .before .before .before .before .before .before .pre .1 in
+    let n = netOf (now (c .before .before .before .before .before .before .before .before .before .before .before .before .before .before .before .before .args .net)) in
     let below = c .before .before .before .before .before .before .before .before .before .before .highest .ensures .below in
-    let found = asking-here (c .before .before .before .before .before .before .before .before .before .before .before .before .before .before .before .before .args .t3) _ _ (c .before .before .before .before .before .before .before .before .before .before .before .before .before .loop .inv .1) _ (c .before .before .before .before .before .before .before .before .before .before .highest .ensures) (sym (c .before .before .before .before .before .before .before .none-after .ensures) ∙ not-false _ (c .before .before .before .before .before .before .if2 .left)) in (
-      change-kept _ _ _ (c .before .before .before .before .undo-one .ensures .1) (c .before .before .before .before .before .before .before .before .before .before .before .before .before .loop .inv .0),
+    let found = asking-here (c .before .before .before .before .before .before .before .before .before .before .before .before .before .before .before .before .args .t3) _ _ (c .before .before .before .before .before .before .before .before .before .before .before .before .before .loop .inv .1) _ (c .before .before .before .before .before .before .before .before .before .before .highest .ensures) (sym (c .before .before .before .before .before .before .before .none-after .ensures) ∙ not-false _ (c .before .before .before .before .before .before .if2 .left)) in
+    let g = in-next (scriptOf S) w n v _ _ p _ _ _ _ (c .before .before .before .before .before .before .before .before .before .before .before .before .before .loop .inv .2 w v p) _ found (lt-ltb _ keyCount below) _ _ (c .before .before .before .before .undo .ensures) _ (c .before .touched-too .ensures) _ (c .without2 .ensures) in (
+      record {
+        size = c .before .before .before .before .before .before .before .before .before .before .before .before .before .before .before .before .pre .0 .size;
+        formed = in-form (scriptOf S) w n v _ _ p _ _ _ _ g;
+        good = in-good (scriptOf S) w n v _ _ p _ _ _ _ g;
+      },
       asking-first _ _,
-      λ w v p.
-          in-next _ w _ v _ _ p _ _ _ _ (c .before .before .before .before .before .before .before .before .before .before .before .before .before .loop .inv .2 w v p) _ found (lt-ltb _ keyCount below) _ _ (c .before .before .before .before .undo-one .ensures) _ (c .before .touched-too .ensures) _ (c .without2 .ensures),
+      λ w v p. in-next (scriptOf S) w n v _ _ p _ _ _ _ (c .before .before .before .before .before .before .before .before .before .before .before .before .before .loop .inv .2 w v p) _ found (lt-ltb _ keyCount below) _ _ (c .before .before .before .before .undo .ensures) _ (c .before .touched-too .ensures) _ (c .without2 .ensures),
     )
 
 done-requires : tie.Need-done-requires Inv-loop μ-loop
 done-requires c κs = search needs
 
 same-length : tie.Need-same-length Inv-loop μ-loop
-same-length c = c .before .before .before .loop .inv .0 ∙ sym (net-size _ (c .before .before .before .before .before .before .pre .0 .formed))
+same-length c = net-sized _ (c .before .before .before .loop .inv .0 .formed) ∙ sym (net-sized _ (c .before .before .before .before .before .before .pre .0 .formed))
 
 returns : tie.Need-returns Inv-loop μ-loop
 returns c =
@@ -150,7 +160,7 @@ undo-each-spec =
     without-requires
     loop-less
     loop-again
-    undo-one-requires
+    undo-requires
     touched-too-requires
     without-requires-2
     add-undone
