@@ -1,22 +1,19 @@
--- A set of events undone in the lent bytes of a net: after each turn they are the bytes of the net that `Rolling` speaks of, and in the end those
--- of the outcome's net.
--- In order: `RollingIn`, what each turn keeps of the bytes: before the first turn (`in-first`), images that are good (`in-form`, `in-good`), where a key is found
--- (`in-few`, `in-undoable`), the next turn (`in-next`), and where none is (`in-done`); the loop comes to its end (`turn-less`); the same of an equal set
--- (`gives-same`).
+-- An event with its dependents undone in the lent bytes of a net: after each undoing they are the bytes of the net that `Rolled` speaks of, and in the end
+-- those of the outcome's net.
+-- In order: `RolledIn`, what each undoing keeps of the bytes, and what the walk has besides (`Walking`); before the first (`walk-first`); the bytes hold good images
+-- (`walk-form`, `walk-good`); the walk goes on (`walk-on`), with fewer to come (`walk-less`); it undoes one (`walk-undoable`, `walk-few`) and begins anew (`walk-next`, `walk-anew`), or is at its
+-- end (`walk-done`); the same of an equal set (`gives-same`).
 -- Assumes nothing.
-use Prim.Native.Nat.{ℕ, suc, _+_, _*_, _≤_, _<_, _^_}
-use native.Mathlib.Nat.{mul-suc, mul-le-mul-left}
+use Prim.Native.Nat.{ℕ, _+_, _*_, _-_, _<_}
 use native.Mathlib.Omega.{arith}
 use mathlib.Core.Path.{_≡_, refl, sym, ap, _∙_, subst}
-use mathlib.Core.Bool.{true, false}
-use mathlib.Core.List.{List}
+use mathlib.Core.Bool.{true}
+use mathlib.Core.List.{List, [], _∷_, _++_}
 use lib.Bits.{bitOr}
-use Rattle.order.specs.KeySets.{Set}
-use Rattle.names.specs.Names.{keyCount, key, isKey}
+use Rattle.order.specs.KeySets.{Set, _∈_, members, count, count-le}
+use Rattle.names.specs.Names.{keyCount}
 use Rattle.names.specs.Localities.{localities}
-use Rattle.names.specs.KeySets.{isIn, excluding}
 use Rattle.names.specs.declared.Key.{Key}
-use Rattle.names.specs.declared.Keys.{Keys}
 use Rattle.names.specs.declared.Localities.{Localities}
 use Rattle.images.specs.Net.{netBytes}
 use Rattle.images.specs.Read.{netOf, netFormed}
@@ -24,85 +21,122 @@ use Rattle.images.specs.Round.{net-again, net-formed}
 use Rattle.images.specs.Shape.{ShapedScript, ShapedNet}
 use Rattle.images.specs.declared.Script.{Script}
 use Rattle.images.specs.declared.Net.{Net}
+use Rattle.nets.specs.Net.{events, dependents}
 use Rattle.nets.specs.Undo.{Undoable}
 use Rattle.rules.specs.View.{view}
 use Rattle.requests.specs.declared.Told.{Told}
-use Rattle.cycles.specs.Highest.{fewer-less}
-use Rattle.cycles.specs.Cycles.{members}
-use Rattle.dependents.specs.Marks.{lastOf}
 use Rattle.step.specs.Lent.{Good, Outcome, told, Gives, done, toldDone}
 use Rattle.step.specs.Change.{Change, applied}
 use Rattle.step.specs.Backward.{undoneAt}
 use Rattle.step.specs.InPlace.{changeBytes, change-bytes}
-use Rattle.rollback.specs.Rollback.{undoneAll}
-use Rattle.rollback.specs.Undone.{Asked, Rolling, net-accepted, rolling-first, rolling-few, rolling-undoable, rolling-next, rolling-done}
+use Rattle.step.specs.Way.{wayOf}
+use Rattle.step.specs.declared.backward.Way.{Way}
+use Rattle.step.specs.declared.backward.Way.the-variants as Way
+use Rattle.rollback.specs.Rollback.{undoneAll, rolledBack}
+use Rattle.rollback.specs.Undone.{Rolled, rolled-first, net-accepted, met-first, met-next, met-less, met-few, met-undoable, rolled-next, still-stands, rolled-all, last-in}
 
--- ---- turns
-
-module _ (s : Script) (w : ShapedScript s) (n : Net) (v : ShapedNet n) (rows : List Keys) (all : Keys) (p : Asked s n rows all) where
-  -- the lent bytes after so many turns, with these localities touched and these keys left
-  pub record RollingIn (turn : ℕ) (freed : Localities) (left : Keys) (b : List ℕ) : Type 0 where
+module _ (s : Script) (w : ShapedScript s) (n : Net) (good : Good s n) (e : Key) (past : e .0 ∈ events (view s n)) where
+  -- the lent bytes, once these were undone and these localities touched
+  pub record RolledIn (turn : ℕ) (freed : Localities) (ks : List ℕ) (b : List ℕ) : Type 0 where
     pub bytes : netBytes (netOf b) ≡ b
-    pub rolling : Rolling s w n v rows all p turn freed left (netOf b)
+    pub rolled : Rolled s w n good e past turn freed ks (netOf b)
 
-  pub in-first : (b : List ℕ) → netBytes (netOf b) ≡ b → netOf b ≡ n → all .0 < 2 ^ keyCount → RollingIn 0 (localities 0) all b
-  in-first b back is small =
-      record { bytes = back; rolling = subst (Rolling s w n v rows all p 0 (localities 0) all) (sym is) (rolling-first s w n v rows all p small) }
+  -- and the event itself is not undone; the walk from it is at the key k
+  pub record Walking (turn : ℕ) (freed : Localities) (k : Key) (b : List ℕ) : Type 0 where
+    pub ks : List ℕ
+    pub here : RolledIn turn freed ks b
+    pub stands : e .0 ∈ events (view s (netOf b))
+    pub met : k .0 ∈ dependents (view s (netOf b)) (e .0)
 
-  module _ (turn : ℕ) (freed : Localities) (left : Keys) (b : List ℕ) (g : RollingIn turn freed left b) where
-    -- they hold good images still
-    pub in-form : netFormed b ≡ true
-    in-form = ap netFormed (sym (g .bytes)) ∙ net-formed (netOf b) (g .rolling .shaped) (g .rolling .in-range)
+  begin : (turn : ℕ) (freed : Localities) (ks : List ℕ) (b : List ℕ) → RolledIn turn freed ks b → e .0 ∈ events (view s (netOf b)) → Walking turn freed e b
+  begin turn freed ks b r stands =
+      record { ks = ks; here = r; stands = stands; met = met-first s w n good e past turn freed ks (netOf b) (r .rolled) stands }
 
-    pub in-good : Good s (netOf b)
-    in-good =
+  pub walk-first : ShapedNet n → (b : List ℕ) → netBytes (netOf b) ≡ b → netOf b ≡ n → Walking 0 (localities 0) e b
+  walk-first v b back is =
+      begin 0 (localities 0) [] b
+      (record { bytes = back; rolled = subst (Rolled s w n good e past 0 (localities 0) []) (sym is) (rolled-first s w n good e past v) })
+      (subst (λ (m : Net). e .0 ∈ events (view s m)) (sym is) past)
+
+  module _ (turn : ℕ) (freed : Localities) (k : Key) (b : List ℕ) (g : Walking turn freed k b) where
+    abbrev m : Net
+    m = netOf b
+
+    -- the bytes hold good images still
+    pub walk-form : netFormed b ≡ true
+    walk-form = ap netFormed (sym (g .here .bytes)) ∙ net-formed m (g .here .rolled .shaped) (g .here .rolled .in-range)
+
+    pub walk-good : Good s m
+    walk-good =
         record {
-          script = p .good .script;
-          net = g .rolling .in-range;
-          accepted = net-accepted s w n v rows all p turn freed left (netOf b) (g .rolling);
+          script = good .script;
+          net = g .here .rolled .in-range;
+          accepted = net-accepted s w n good e past turn freed (g .ks) m (g .here .rolled);
         }
 
-    -- all is done
-    all-told : done turn freed (netOf b) ≡ undoneAll s n (members all) → (t : Told) → t ≡ toldDone turn freed
-        → Gives t b (undoneAll s n (members all))
-    all-told e t is = (is ∙ ap told e, sym (g .bytes) ∙ ap (λ (o : Outcome). netBytes (o .net)) e)
+    module _ (way : Way) (is-way : way ≡ wayOf s m k) where
+      -- ---- one is in the way
 
-    module _ (k : Key) (found : k ≡ key (lastOf rows keyCount left)) where
-      pub in-few : isKey k ≡ true → turn < keyCount
-      in-few there = rolling-few s w n v rows all p turn freed left (netOf b) (g .rolling) k found there
+      module _ (f : Key) (behind : way ≡ Way.Behind f) where
+        pub walk-on : Walking turn freed f b
+        walk-on =
+            record {
+              ks = g .ks;
+              here = g .here;
+              stands = g .stands;
+              met = met-next s w n good e past turn freed (g .ks) m (g .here .rolled) (g .stands) k (g .met) f (sym is-way ∙ behind);
+            }
 
-      pub in-undoable : isKey k ≡ true → Undoable (view s (netOf b)) (k .0)
-      in-undoable there = rolling-undoable s w n v rows all p turn freed left (netOf b) (g .rolling) k found there
+        pub walk-less : count keyCount (dependents (view s m) (f .0)) < count keyCount (dependents (view s m) (k .0))
+        walk-less = met-less s w n good e past turn freed (g .ks) m (g .here .rolled) (g .stands) k (g .met) f (sym is-way ∙ behind)
 
-      pub in-next : isKey k ≡ true → (one : Localities) (last : List ℕ)
-          → (one ≡ undoneAt s (netOf b) k .touched) × (last ≡ changeBytes (undoneAt s (netOf b) k) b) → (more : Localities)
-          → more ≡ localities (bitOr (freed .0) (one .0)) → (rest : Keys) → rest ≡ excluding left k → RollingIn (turn + 1) more rest last
-      in-next there one last (is-one, is-last) more is-more rest is-rest =
-          let c : Change = undoneAt s (netOf b) k in
-          let m : Net = applied (netOf b) c in
-          let r : Rolling s w n v rows all p (turn + 1) more rest m =
-          rolling-next s w n v rows all p turn freed left (netOf b) (g .rolling) k found there more
-          (is-more ∙ ap (λ (l : Localities). localities (bitOr (freed .0) (l .0))) is-one) rest is-rest in
-          let is : last ≡ netBytes m = is-last ∙ ap (changeBytes c) (sym (g .bytes)) ∙ change-bytes (netOf b) (g .rolling .shaped .slots) c in
-          let again : netOf last ≡ m = ap netOf is ∙ net-again m (r .shaped) (r .in-range) in
-          record { bytes = ap netBytes again ∙ sym is; rolling = subst (Rolling s w n v rows all p (turn + 1) more rest) (sym again) r }
+      -- ---- none is
 
-      pub in-done : isKey k ≡ false → (t : Told) → t ≡ toldDone turn freed → Gives t b (undoneAll s n (members all))
-      in-done absent = all-told (rolling-done s w n v rows all p turn freed left (netOf b) (g .rolling) k found absent)
+      module _ (clear : way ≡ Way.Clear) where
+        pub walk-undoable : Undoable (view s m) (k .0)
+        walk-undoable = met-undoable s w n good e past turn freed (g .ks) m (g .here .rolled) (g .stands) k (g .met) (sym is-way ∙ clear)
 
--- ---- the end
+        pub walk-few : turn < keyCount
+        walk-few = met-few s w n good e past turn freed (g .ks) m (g .here .rolled) (g .stands) k (g .met)
 
-above : (c l m t u : ℕ) → l < m → t < c → c * l + t < c * m + u
-above c l m t u h s =
-    let p : c * suc l ≤ c * m = mul-le-mul-left c h in
-    let q : c * suc l ≡ c * l + c = mul-suc c l in
-    omega (arith, p, q, s)
+        module _ (one : Localities) (last : List ℕ) (undone : (one ≡ undoneAt s m k .touched) × (last ≡ changeBytes (undoneAt s m k) b)) (more : Localities)
+            (is-more : more ≡ localities (bitOr (freed .0) (one .0))) where
+          abbrev c : Change
+          c = undoneAt s m k
 
--- with one key undone fewer are left, however many are then to be looked at
-pub turn-less : (left rest toCome : Keys) (k : Key) → k .0 < keyCount → isIn left k ≡ true → rest ≡ excluding left k → rest .0 < 2 ^ keyCount
-    → 2 ^ keyCount * rest .0 + rest .0 < 2 ^ keyCount * left .0 + toCome .0
-turn-less left rest toCome k below there e small =
-    above (2 ^ keyCount) (rest .0) (left .0) (rest .0) (toCome .0) (fewer-less left rest k below there e) small
+          after : Rolled s w n good e past (turn + 1) more (g .ks ++ (k .0 ∷ [])) (applied m c)
+          after =
+              rolled-next s w n good e past turn freed (g .ks) m (g .here .rolled) (g .stands) k (g .met) walk-undoable more
+              (is-more ∙ ap (λ (l : Localities). localities (bitOr (freed .0) (l .0))) (undone .0))
+
+          is : last ≡ netBytes (applied m c)
+          is = undone .1 ∙ ap (changeBytes c) (sym (g .here .bytes)) ∙ change-bytes m (g .here .rolled .shaped .slots) c
+
+          again : netOf last ≡ applied m c
+          again = ap netOf is ∙ net-again (applied m c) (after .shaped) (after .in-range)
+
+          rolled-in : RolledIn (turn + 1) more (g .ks ++ (k .0 ∷ [])) last
+          rolled-in =
+              record {
+                bytes = ap netBytes again ∙ sym is;
+                rolled = subst (Rolled s w n good e past (turn + 1) more (g .ks ++ (k .0 ∷ []))) (sym again) after;
+              }
+
+          pub walk-next : (k .0 ≡ e .0 → ⊥) → Walking (turn + 1) more e last
+          walk-next other =
+              begin (turn + 1) more (g .ks ++ (k .0 ∷ [])) last rolled-in
+              (subst (λ (z : Net). e .0 ∈ events (view s z)) (sym again)
+              (still-stands s w n good e past turn freed (g .ks) m (g .here .rolled) (g .stands) k (g .met) walk-undoable other))
+
+          pub walk-done : k .0 ≡ e .0 → (t : Told) → t ≡ toldDone (turn + 1) more → Gives t last (rolledBack s n (e .0))
+          walk-done itself t is-t =
+              let all : done (turn + 1) more (netOf last) ≡ rolledBack s n (e .0) =
+              rolled-all s w n good e past (turn + 1) more (g .ks ++ (k .0 ∷ [])) (netOf last) (rolled-in .rolled) (last-in (g .ks) (k .0) (e .0) itself) in
+              (is-t ∙ ap told all, sym (rolled-in .bytes) ∙ ap (λ (o : Outcome). netBytes (o .net)) all)
+
+-- with one undone, less is to come, however far the next walk goes
+pub walk-anew : (turn : ℕ) (S : Set) (m : ℕ) → turn < keyCount → (keyCount + 1) * (keyCount - (turn + 1)) + count keyCount S < (keyCount + 1) * (keyCount - turn) + m
+walk-anew turn S m few = omega (arith, few, count-le keyCount S)
 
 -- ---- an equal set
 

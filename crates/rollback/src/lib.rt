@@ -7,7 +7,6 @@ ghost use Rattle.order.specs.KeySets.{_∈_};
 ghost use Rattle.names.specs.Localities.{localities};
 ghost use Rattle.images.specs.Net.{netBytes};
 ghost use Rattle.images.specs.Read.{scriptOf, netOf};
-ghost use Rattle.cycles.specs.Cycles.{members};
 ghost use Rattle.nets.specs.Net.{events};
 ghost use Rattle.rules.specs.View.{view};
 ghost use Rattle.products.specs.Products.{isSplit};
@@ -15,19 +14,13 @@ ghost use Rattle.requests.specs.Checks.{refusal};
 ghost use Rattle.requests.specs.Requests.{answerOf};
 ghost use Rattle.step.specs.Tests.{checked};
 ghost use Rattle.step.specs.Lent.{Lent, told, lentAfter, toldDone};
-ghost use Rattle.rollback.specs.Rollback.{undoneAll, rolledBack, rollbackOutcome, rollOutcome};
-ghost use Rattle.rollback.specs.Undone.{Asked};
+ghost use Rattle.rollback.specs.Rollback.{rolledBack, rollbackOutcome, rollOutcome};
 ghost use Rattle.rollback.specs.Checked.{heldBy, isHeld, isRoll, rollbackTests, rollTests};
-use cycles::highest;
-use dependents::dependents;
-use dependents::keys_of;
-use dependents::none_after;
 use images::Action;
 use images::Slot;
 use images::net_image::slot_in;
 use images::script_image::node_in;
 use names::Key;
-use names::Keys;
 use names::Localities;
 use names::Reference;
 use requests::Answer;
@@ -35,17 +28,16 @@ use requests::Request;
 use requests::Told;
 use requests::refused;
 use step::Check;
+use step::backward::Way;
+use step::backward::in_the_way;
 use step::backward::undo;
 use step::checks::all_hold;
 use step::checks::is_live;
 use step::checks::is_past;
 use step::checks::none_placed;
 use step::checks::told;
-use traces::deeds_of;
-use traces::events_of;
-use traces::rows_of;
 
-// ---- a set of events, undone one by one
+// ---- an event with its dependents, undone one by one
 
 fn touched_too(a: Localities, b: Localities) -> Localities
     ensures { λ r. ⌜ r ≡ localities (bitOr (a .0) (b .0)) ⌝ }
@@ -63,46 +55,33 @@ fn done(undone: u8, touched: Localities) -> Told
     }
 }
 
-// The events of a set that holds whatever depends on one of them. Those left are looked at from the greatest key down; the first on which
-// nothing left depends is undone, and then all that are left are to be looked at again. So the work is at most in proportion to the square of
-// the number of keys, in whatever order the keys were given out. The loop is in one function: rows that are handed on are copied.
-fn undo_each(script: &[u8], net: &mut [u8], rows: [Keys; Key::COUNT], all: Keys) -> Told
-    requires { ⌜ Lent (now script) (now net) × Asked (scriptOf (now script)) (netOf (now net)) rows all ⌝ }
-    ensures { λ r. ⌜ r ≡ told (undoneAll (scriptOf (now (script .entry))) (netOf (now (net .entry))) (members all)) ⌝ }
-    ensures { λ _. ⌜ now (net .exit) ≡ netBytes (undoneAll (scriptOf (now (script .entry))) (netOf (now (net .entry))) (members all) .net) ⌝ }
-{
-    let mut left = all;
-    let mut to_come = all;
-    let mut touched = Localities::EMPTY;
-    let mut undone: u8 = 0;
-    while !to_come.is_empty() {
-        let k = highest(to_come);
-        let row = rows[k.0 as usize];
-        if !none_after(row, left) {
-            to_come = to_come.without(k);
-            continue;
-        }
-        let freed = undo(script, net, k);
-        touched = touched_too(touched, freed);
-        left = left.without(k);
-        to_come = left;
-        undone += 1;
-    }
-    done(undone, touched)
-}
-
-// An event with all that depends on it.
+// An event with all that depends on it. From the event the walk goes to one that is in the way, and on, until nothing is: that one is undone, and the
+// walk begins anew. So the event itself is undone last.
 fn undo_dependents(script: &[u8], net: &mut [u8], e: Key) -> Told
     requires { ⌜ Lent (now script) (now net) × (e .0 ∈ events (view (scriptOf (now script)) (netOf (now net)))) ⌝ }
     ensures { λ r. ⌜ r ≡ told (rolledBack (scriptOf (now (script .entry))) (netOf (now (net .entry))) (e .0)) ⌝ }
     ensures { λ _. ⌜ now (net .exit) ≡ netBytes (rolledBack (scriptOf (now (script .entry))) (netOf (now (net .entry))) (e .0) .net) ⌝ }
 {
-    let deeds = deeds_of(script, net);
-    let events = events_of(net);
-    let rows = rows_of(deeds, net, events);
-    let marks = dependents(rows, events, e);
-    let all = keys_of(marks);
-    undo_each(script, net, rows, all)
+    let mut touched = Localities::EMPTY;
+    let mut undone: u8 = 0;
+    let mut k = e;
+    loop {
+        let way = in_the_way(script, net, k);
+        match way {
+            Way::Behind(f) => {
+                k = f;
+            }
+            Way::Clear => {
+                let freed = undo(script, net, k);
+                touched = touched_too(touched, freed);
+                undone += 1;
+                if k.0 == e.0 {
+                    return done(undone, touched);
+                }
+                k = e;
+            }
+        }
+    }
 }
 
 // ---- rollback of the named event
