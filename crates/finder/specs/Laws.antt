@@ -1,10 +1,10 @@
 -- What the finder and the helpers promise, of the net that the image stands for.
--- In order: an answer's number (`refusal-of`, `done-zero`), and a check that holds refuses nothing (`passes`, `not-refused`); a found tuple (`Finds`), and the done
+-- In order: a check that holds refuses nothing (`passes`, `not-refused`); a found tuple (`Finds`), and the done
 -- finder's key is one (`found-least`); nothing is found exactly when nothing meets (`nothing-found`); a refusal's key is none (`refused-none`); a
 -- forward step with the tuple found is not refused for it (`found-steps`, `found-no-refusal`); the least free key (`key-free`, `key-none`) and the
 -- least absent locality (`locality-absent`, `locality-none`).
 -- Assumes nothing.
-use Prim.Native.Nat.{ℕ, zero, suc, _<_, _≤_}
+use Prim.Native.Nat.{ℕ, _<_, _≤_}
 use mathlib.Core.Path.{_≡_, refl, ap, sym, _∙_, subst}
 use mathlib.Core.Logic.{_↔_}
 use mathlib.Core.Bool.{Bool, true, false, _&&_, not}
@@ -29,7 +29,7 @@ use Rattle.rules.specs.View.{view, view-slot, view-present, free-is}
 use Rattle.requests.specs.Checks.{Check, check, refusal, Hold, Numbered, all-hold}
 use Rattle.requests.specs.Answers as A
 use Rattle.requests.specs.Answers.{forwardChecks}
-use Rattle.requests.specs.Requests.{answerOf, number, isDone, asked}
+use Rattle.requests.specs.Requests.{answerOf, number, isDone, number-back, done-zero, asked}
 use Rattle.requests.specs.declared.Request.{Request}
 use Rattle.requests.specs.declared.Answer.{Answer}
 use Rattle.requests.specs.declared.Answer.the-variants as Answer
@@ -38,27 +38,7 @@ use Rattle.finder.specs.Finder.{meeting, beforeSearch, finderChecks, lea
 use Rattle.finder.specs.Helpers.{freeKey, isAbsent, absentLocality}
 use Rattle.finder.specs.Searched.{stops, goes-on, before-numbered}
 
--- ---- answers and checks
-
--- an answer's number is the refusal's
-pub refusal-of : (m c : ℕ) → c < 12 → number (answerOf m) ≡ c → m ≡ c
-refusal-of zero c l e = e
-refusal-of (suc zero) c l e = e
-refusal-of (suc (suc zero)) c l e = e
-refusal-of (suc (suc (suc zero))) c l e = e
-refusal-of (suc (suc (suc (suc zero)))) c l e = e
-refusal-of (suc (suc (suc (suc (suc zero))))) c l e = e
-refusal-of (suc (suc (suc (suc (suc (suc zero)))))) c l e = e
-refusal-of (suc (suc (suc (suc (suc (suc (suc zero))))))) c l e = e
-refusal-of (suc (suc (suc (suc (suc (suc (suc (suc zero)))))))) c l e = e
-refusal-of (suc (suc (suc (suc (suc (suc (suc (suc (suc zero))))))))) c l e = e
-refusal-of (suc (suc (suc (suc (suc (suc (suc (suc (suc (suc zero)))))))))) c l e = e
-refusal-of (suc (suc (suc (suc (suc (suc (suc (suc (suc (suc (suc zero))))))))))) c l e = e
-refusal-of (suc (suc (suc (suc (suc (suc (suc (suc (suc (suc (suc (suc m)))))))))))) c l e = absurd (omega (arith, l, e))
-
--- a done answer is that of no refusal
-pub done-zero : (m : ℕ) → isDone (answerOf m) ≡ true → m ≡ 0
-done-zero m h = refusal-of m 0 (omega arith) (eqb-true (number (answerOf m)) 0 h)
+-- ---- checks
 
 -- each check with this number holds
 abbrev pub passes : ℕ → List Check → Bool
@@ -147,7 +127,7 @@ module _ (s : Script) (n : Images.Net) (k : Key) where
   unfolding foundOf
   nothing-found =
       let m = refusal (finderChecks (view s n) (k .0)) in (
-        λ e. nine-iff (view s n) (k .0) .0 (refusal-of m 9 (omega arith) (ap number e)),
+        λ e. nine-iff (view s n) (k .0) .0 (number-back m 9 (λ z. omega (arith, z)) (ap number e)),
         λ h. ap answerOf (nine-iff (view s n) (k .0) .1 h),
       )
 
