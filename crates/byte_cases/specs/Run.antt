@@ -11,12 +11,10 @@ use mathlib.Core.Path.{_≡_, refl, sym, ap, ap₂, _∙_, subst}
 use mathlib.Core.Bool.{true, false}
 use mathlib.Core.List.{List, [], _∷_}
 use lib.Dec.{eqb}
-use lib.ListN.{length}
-use borrow.Author.Tests.{eqb-true, eq-eqb}
+use borrow.Author.Tests.{eqb-true}
 use Rattle.laws.specs.Choice.{cases, clash, and-both}
 use Rattle.images.specs.Script.{scriptBytes, scriptInRange}
-use Rattle.images.specs.Net.{netBytes, netWritten}
-use Rattle.images.specs.Layout.{length-net}
+use Rattle.images.specs.Net.{netBytes}
 use Rattle.images.specs.Read as Read
 use Rattle.images.specs.Read.{readScript, readNet}
 use Rattle.images.specs.Round.{script-again, script-formed, net-again, net-formed}
@@ -34,13 +32,12 @@ use Rattle.rules.specs.Image.{imageOf}
 use Rattle.requests.specs.Checks.{refusal}
 use Rattle.requests.specs.Answers as Theory
 use Rattle.requests.specs.Answers.{Request, Outcome, inRange, outcome}
-use Rattle.requests.specs.Requests.{number, isDone, answerOf, requestOf}
+use Rattle.requests.specs.Requests.{number, isDone, answerOf, done-number, requestOf}
 use Rattle.requests.specs.declared.RequestRead.the-variants as RequestRead
 use Rattle.requests.specs.declared.Answer.{Answer}
 use Rattle.requests.specs.declared.Answer.the-variants as Answer
-use Rattle.step.specs.Laws.{done-number}
-use Rattle.rollback.specs.Rollback.{Good}
-use Rattle.machine.specs.Calls.{isGood, scriptIn, netIn, goodScript, goodNet, toldBy, Reply, told, refusedWith, afterwards, replyTo, reply}
+use Rattle.step.specs.Lent.{Good, told, lentAfter}
+use Rattle.machine.specs.Calls.{isGood, scriptIn, netIn, goodScript, goodNet, toldBy, Reply, refusedWith, replyTo, reply}
 use Rattle.machine.specs.After.{Kept}
 use Rattle.machine.specs.Bytes.{served-number, Call, bad-script, bad-net, bad-request, all-read, call, after-kept}
 use Rattle.cases.specs.Table.{Result, line}
@@ -163,7 +160,7 @@ module _ (s : Script) (w : ShapedScript s) (range : scriptInRange s ≡ true) wh
 
       -- what is replied to a request in range whose outcome is this
       abbrev replyBy : Outcome (rulesOf s) → Reply
-      replyBy x = record { told = told (toldBy s x); net = afterwards (toldBy s x) N }
+      replyBy x = record { told = told (toldBy s x); net = lentAfter (toldBy s x) N }
 
       -- both images are read, so the request is served on them
       reply-read : a ≡ replyTo (scriptIn (scriptBytes s)) (netIn N) N (RequestRead.Request (requestOf (requestBytes r))) → a ≡ replyBy o
@@ -173,38 +170,38 @@ module _ (s : Script) (w : ShapedScript s) (range : scriptInRange s ≡ true) wh
           ap (λ (v : Net (rulesOf s)). replyBy (outcome (rolledBy s) v r)) (k .viewed)
 
       -- the number that is told is the theory's
-      number-there : inRange r ≡ true → number (answerOf (o .answer)) ≡ answerThere s m r
+      number-there : number (answerOf (o .answer)) ≡ answerThere s m r
       unfolding toldBy
-      number-there h =
+      number-there =
           subst (λ (v : Net (rulesOf s)). number (answerOf (outcome (rolledBy s) v r .answer)) ≡ answerThere s v r) (k .viewed)
-          (served-number s (imageOf s m) (requestOf (requestBytes r)) h)
+          (served-number s (imageOf s m) (requestOf (requestBytes r)))
 
       bad-follows : Follows s (refusedThere s m 3) (refusedWith Answer.BadRequest N)
       bad-follows = record { answer = refl; undone = refl; touched = refl; net = refl; kept = k }
 
       -- a call that is done is written over the whole image
       done-follows : inRange r ≡ true → eqb (answerThere s m r) 0 ≡ true → Follows s (doneThere s m r) (replyBy (doneThere s m r))
-      unfolding toldBy afterwards netWritten
+      unfolding toldBy lentAfter
       done-follows h z =
           let zero-there : answerThere s m r ≡ 0 = eqb-true (answerThere s m r) 0 z in
           record {
             answer = refl;
             undone = refl;
             touched = refl;
-            net = rw (eq-eqb (length N) 3600 (length-net (imageOf s m))) refl;
+            net = refl;
             kept =
                 subst (λ (v : Net (rulesOf s)). Kept s (Theory.netAfter (rolledBy s) v r)) (k .viewed)
                 (after-kept s w (imageOf s m) (k .shaped) good (requestOf (requestBytes r)) h
                 (subst (λ (v : Net (rulesOf s)). answerThere s v r ≡ 0) (sym (k .viewed)) zero-there));
           }
 
-      refused-follows : inRange r ≡ true → eqb (answerThere s m r) 0 ≡ false
+      refused-follows : eqb (answerThere s m r) 0 ≡ false
           → Follows s (refusedThere s m (answerThere s m r)) (replyBy (refusedThere s m (answerThere s m r)))
-      unfolding toldBy afterwards
-      refused-follows h z =
+      unfolding toldBy lentAfter
+      refused-follows z =
           let not-done : isDone (answerOf (answerThere s m r)) ≡ false = done-number (answerThere s m r) ∙ z in
           record {
-            answer = ap (λ (x : Outcome (rulesOf s)). number (answerOf (x .answer))) (sym (outcome-refused s m r z)) ∙ number-there h;
+            answer = ap (λ (x : Outcome (rulesOf s)). number (answerOf (x .answer))) (sym (outcome-refused s m r z)) ∙ number-there;
             undone = refl;
             touched = refl;
             net = rw not-done refl;
@@ -227,7 +224,7 @@ module _ (s : Script) (w : ShapedScript s) (range : scriptInRange s ≡ true) wh
               by (doneThere s m r) e (replyBy (doneThere s m r)) (q ∙ ap replyBy e) (done-follows h z))
               (λ z.
               let e = outcome-refused s m r z in
-              by (refusedThere s m (answerThere s m r)) e (replyBy (refusedThere s m (answerThere s m r))) (q ∙ ap replyBy e) (refused-follows h z))
+              by (refusedThere s m (answerThere s m r)) e (replyBy (refusedThere s m (answerThere s m r))) (q ∙ ap replyBy e) (refused-follows z))
 
           each : Call (scriptBytes s) N (requestBytes r) → Follows s o a
           each (bad-script g e) = clash (goodScript (scriptBytes s)) script-good g

@@ -26,6 +26,7 @@ use Rattle.rules.specs.Theorems.{forward-accepted, undo-accepted, any-order}
 use Rattle.requests.specs.Answers.{inRange, places}
 use Rattle.requests.specs.Requests.{asked}
 use Rattle.requests.specs.declared.Request.{Request}
+use Rattle.step.specs.Lent.{Good}
 use Rattle.step.specs.Change.{applied}
 use Rattle.step.specs.Forward.{forwardChange}
 use Rattle.step.specs.Backward.{undoneAt}
@@ -33,7 +34,6 @@ use Rattle.step.specs.Laws.{forward-done, forward-gives}
 use Rattle.step.specs.Undone.{undo-is}
 use Rattle.ranges.specs.Forward.{forward-in-range, forward-shaped}
 use Rattle.ranges.specs.Backward.{accepted-taken, undone-in-range, undone-shaped}
-use Rattle.rollback.specs.Rollback.{Good}
 
 -- a net of the theory that its image holds, in range and of the code's types, and that is accepted
 pub record Kept (s : Script) (m : Net (rulesOf s)) : Type 0 where

@@ -6,12 +6,12 @@ use Prim.Native.Nat.{ℕ}
 use mathlib.Core.Path.{_≡_, sym, ap, _∙_}
 use mathlib.Core.Bool.{true, false}
 use mathlib.Core.List.{List}
-use lib.ListN.{length}
 use Rattle.names.specs.Names.{none, key, locality}
 use Rattle.names.specs.declared.Key.{Key}
 use Rattle.names.specs.declared.Locality.{Locality}
 use Rattle.names.specs.declared.Localities.{Localities}
 use Rattle.images.specs.Read.{scriptOf, netOf}
+use Rattle.images.specs.Sizes.{Scripted, Sized}
 use Rattle.images.specs.declared.Net.{Net}
 use Rattle.requests.specs.Requests.{isDone}
 use Rattle.requests.specs.declared.Answer.{Answer}
@@ -45,7 +45,7 @@ module _ (script net : List ℕ) (a : Answer) (is : a ≡ imageAnswer script net
     good : GoodImages script net
     good = sym (ap isDone is) ∙ h
 
-    pub good-sizes : (length script ≡ 2064) × (length net ≡ 3600)
+    pub good-sizes : Scripted script × Sized net
     good-sizes = (script-size script net good, net-size script net good)
 
     pub find-yes : (k : ℕ) (o : Found) → o ≡ foundOf (scriptOf script) (netOf net) (key k) → o ≡ foundIn script net k

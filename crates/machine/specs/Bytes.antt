@@ -1,15 +1,15 @@
 -- Why the demands hold of byte strings: lemmas on one call, for `Demands`. Nothing here must be believed.
 --
--- In order: answers and their numbers (`number-few`); the theory's answer, by the code of the request (`answer-forward` and its kin), and its outcome,
--- refused or done (`served-number`); a call by its first three checks (`Call`, `call`); what a refusal leaves (`left`); images that were read (`Held`,
--- `held-good`), and their bytes again (`net-again`); a call that is done (`Doing`, `doing`, `done-when`); what the checks of each code allow, the net
--- after it (`after-kept`) and how many it undoes (`undone-few`); the bytes that a call leaves (`next-held`, `next-view`, `next-undone`); touched words
--- as sets (`word-union`).
+-- In order: the checks of each code (`forward-numbered` and its kin), and the theory's answer, by the code of the request (`answer-forward` and its kin); its
+-- outcome, refused or done (`served-number`, `served-refused`, `served-done`); a call by its first three checks (`Call`, `call`); what a refusal leaves
+-- (`left`); images that were read (`Held`, `held-images`, `good-held`, `held-good`), and their bytes again (`net-again`); a call that is done (`Doing`,
+-- `doing`, `done-when`); what the checks of each code allow, the net after it (`after-kept`) and how many it undoes (`undone-few`); the bytes that a
+-- call leaves (`next-held`, `next-view`, `next-undone`); touched words as sets (`word-union`).
 -- Assumes nothing.
-use Prim.Native.Nat.{ℕ, zero, suc, _≤_, zero-le}
+use Prim.Native.Nat.{ℕ, _≤_}
 use mathlib.Core.Path.{_≡_, refl, sym, ap, ap₂, _∙_, subst, fun-ext}
 use mathlib.Core.Bool.{Bool, true, false, _&&_, _||_}
-use mathlib.Core.List.{List, [], _∷_}
+use mathlib.Core.List.{List}
 use native.Mathlib.Omega.{arith}
 use lib.Dec.{eqb, ltb, leb}
 use lib.ListN.{length}
@@ -20,14 +20,12 @@ use Rattle.laws.specs.Words.{Bytes}
 use Rattle.order.specs.KeySets.{Set, _∈_, _∪_, empty}
 use Rattle.order.specs.Words.{wordOf, wordOf-in, wordOf-above}
 use Rattle.names.specs.Localities.{localities}
-use Rattle.images.specs.Script.{scriptInRange}
-use Rattle.images.specs.Net.{netBytes, netWritten, netInRange}
-use Rattle.images.specs.Read.{readScript, netFormed, netOf, readNet}
+use Rattle.images.specs.Net.{netBytes}
+use Rattle.images.specs.Read.{netFormed, readNet}
 use Rattle.images.specs.Read as Read
-use Rattle.images.specs.Reading.{script-read, script-shaped, net-read, net-shaped}
+use Rattle.images.specs.Reading.{net-read}
+use Rattle.images.specs.Round.{net-back, shaped-script, shaped-net}
 use Rattle.images.specs.Shape.{ShapedScript, ShapedNet}
-use Rattle.images.specs.declared.Form.{Form}
-use Rattle.images.specs.declared.Form.the-variants as Form
 use Rattle.images.specs.declared.Script.{Script}
 use Rattle.images.specs.declared.Net as Images
 use Rattle.images.specs.declared.NetRead.{NetRead}
@@ -41,89 +39,29 @@ use Rattle.rules.specs.Same.{accepted-is-tested}
 use Rattle.rules.specs.View.{view, beyond}
 use Rattle.rules.specs.Image.{imageOf, image-view}
 use Rattle.rules.specs.Theorems.{undone-below}
-use Rattle.requests.specs.Checks.{Check, refusal, Numbered, all-hold}
+use Rattle.requests.specs.Checks.{refusal, Numbered, all-hold}
 use Rattle.requests.specs.Answers as Theory
 use Rattle.requests.specs.Answers.{inRange, forwardChecks, backwardChecks, rollbackChecks, rollChecks}
 use Rattle.requests.specs.Laws.{forward-can, undo-can}
-use Rattle.requests.specs.Requests.{asked, number, isDone, answerOf, requestOf, readRequest}
+use Rattle.requests.specs.Requests.{asked, number, isDone, answers, answerOf, isNumber, number-of, Known, refusal-known, done-number, requestOf, readRequest}
 use Rattle.requests.specs.declared.Request.{Request}
 use Rattle.requests.specs.declared.RequestRead.{RequestRead}
 use Rattle.requests.specs.declared.RequestRead.the-variants as RequestRead
 use Rattle.requests.specs.declared.Answer.{Answer}
 use Rattle.requests.specs.declared.Answer.the-variants as Answer
-use Rattle.step.specs.Laws.{done-number}
-use Rattle.rollback.specs.Rollback.{Good, Outcome, rollAnswer}
+use Rattle.step.specs.Lent.{Good, Outcome, told, lentAfter}
+use Rattle.step.specs.Lent as Lent
+use Rattle.rollback.specs.Rollback.{rollAnswer}
 use Rattle.rollback.specs.Checked.{roll-event, roll-held}
 use Rattle.machine.specs.Written.{bytes-net}
 use Rattle.machine.specs.After.{Kept, kept-of, forward-kept, undo-kept, rollback-kept}
-use Rattle.machine.specs.Calls.{isGood, scriptIn, netIn, goodScript, goodNet, imageAnswer, toldBy, served, Reply, told, refusedWith, afterwards, replyTo, reply}
-
--- ---- answers
-
-pub number-few : (a : Answer) → number a ≤ 12
-number-few Answer.Done = omega arith
-number-few Answer.BadScript = omega arith
-number-few Answer.BadNet = omega arith
-number-few Answer.BadRequest = omega arith
-number-few Answer.WrongProcess = omega arith
-number-few Answer.WrongNode = omega arith
-number-few Answer.WrongPlaces = omega arith
-number-few Answer.Unset = omega arith
-number-few Answer.TargetAbsent = omega arith
-number-few Answer.NoTuple = omega arith
-number-few Answer.NoMatch = omega arith
-number-few Answer.NotFresh = omega arith
-number-few Answer.NotUndoable = omega arith
-
--- the answer of a number up to 12 has that number
-number-of : (k : ℕ) → k ≤ 12 → number (answerOf k) ≡ k
-number-of zero h = refl
-number-of (suc zero) h = refl
-number-of (suc (suc zero)) h = refl
-number-of (suc (suc (suc zero))) h = refl
-number-of (suc (suc (suc (suc zero)))) h = refl
-number-of (suc (suc (suc (suc (suc zero))))) h = refl
-number-of (suc (suc (suc (suc (suc (suc zero)))))) h = refl
-number-of (suc (suc (suc (suc (suc (suc (suc zero))))))) h = refl
-number-of (suc (suc (suc (suc (suc (suc (suc (suc zero)))))))) h = refl
-number-of (suc (suc (suc (suc (suc (suc (suc (suc (suc zero))))))))) h = refl
-number-of (suc (suc (suc (suc (suc (suc (suc (suc (suc (suc zero)))))))))) h = refl
-number-of (suc (suc (suc (suc (suc (suc (suc (suc (suc (suc (suc zero))))))))))) h = refl
-number-of (suc (suc (suc (suc (suc (suc (suc (suc (suc (suc (suc (suc zero)))))))))))) h = refl
-number-of (suc (suc (suc (suc (suc (suc (suc (suc (suc (suc (suc (suc (suc k))))))))))))) h = absurd (omega arith)
-
--- checks whose numbers are at most k
-abbrev UpTo : ℕ → List Check → Type 0
-UpTo k [] = Unit
-UpTo k (c ∷ cs) = (c .number ≤ k) × UpTo k cs
-
-refusal-upto : (k : ℕ) (cs : List Check) → UpTo k cs → refusal cs ≤ k
-unfolding refusal
-refusal-upto k [] h = zero-le
-refusal-upto k (c ∷ cs) h = cases (c .holds) (λ t. rw t (refusal-upto k cs (h .1))) (λ t. rw t (h .0))
+use Rattle.machine.specs.Calls.{isGood, scriptIn, netIn, goodScript, goodNet, imageAnswer, GoodImages, toldBy, served, Reply, refusedWith, replyTo, reply}
+use Rattle.machine.specs.Called.{script-formed, net-formed, script-in, net-in, net-range, images-good, good-images}
 
 -- ---- the theory's answer to a request, by its code
 
 module _ (s : Script) (n : Images.Net) (r : Theory.Request) where
-  -- no list has a check above 12, or with the number 0
-  forward-few : refusal (forwardChecks (rolledBy s) (view s n) r) ≤ 12
-  unfolding forwardChecks
-  forward-few =
-      refusal-upto 12 (forwardChecks (rolledBy s) (view s n) r)
-      (omega arith, (omega arith, (omega arith, (omega arith, (omega arith, (omega arith, (omega arith, (omega arith, tt))))))))
-
-  backward-few : refusal (backwardChecks (rolledBy s) (view s n) r) ≤ 12
-  unfolding backwardChecks
-  backward-few = refusal-upto 12 (backwardChecks (rolledBy s) (view s n) r) (omega arith, (omega arith, (omega arith, tt)))
-
-  rollback-few : refusal (rollbackChecks (rolledBy s) (view s n) r) ≤ 12
-  unfolding rollbackChecks
-  rollback-few = refusal-upto 12 (rollbackChecks (rolledBy s) (view s n) r) (omega arith, (omega arith, (omega arith, tt)))
-
-  roll-few : refusal (rollChecks (rolledBy s) (view s n) r) ≤ 12
-  unfolding rollChecks
-  roll-few = refusal-upto 12 (rollChecks (rolledBy s) (view s n) r) (omega arith, (omega arith, (omega arith, (omega arith, tt))))
-
+  -- no check has the number 0
   pub forward-numbered : Numbered (forwardChecks (rolledBy s) (view s n) r)
   unfolding forwardChecks
   forward-numbered =
@@ -160,16 +98,24 @@ module _ (s : Script) (n : Images.Net) (r : Theory.Request) where
         unfolding Theory.answer Theory.checksOf refusal
         answer-rollback c = rw (range, a, b, c) refl
 
-        answer-roll : eqb (r .code) 2 ≡ false → answer ≡ refusal (rollChecks (rolledBy s) (view s n) r)
+        pub answer-roll : eqb (r .code) 2 ≡ false → answer ≡ refusal (rollChecks (rolledBy s) (view s n) r)
         unfolding Theory.answer Theory.checksOf refusal
         answer-roll c = rw (range, a, b, c) refl
 
-    answer-few : answer ≤ 12
-    answer-few =
-        let few : (k : ℕ) → answer ≡ k → k ≤ 12 → answer ≤ 12 = λ k e h. subst (λ (j : ℕ). j ≤ 12) (sym e) h in
-        cases (eqb (r .code) 0) (λ a. few _ (answer-forward a) forward-few)
-        (λ a. cases (eqb (r .code) 1) (λ b. few _ (answer-backward a b) backward-few)
-        (λ b. cases (eqb (r .code) 2) (λ c. few _ (answer-rollback a b c) rollback-few) (λ c. few _ (answer-roll a b c) roll-few)))
+  -- every check has the number of an answer, and so has the first that fails
+  code-known : Known
+      (pick (eqb (r .code) 0) (forwardChecks (rolledBy s) (view s n) r)
+      (pick (eqb (r .code) 1) (backwardChecks (rolledBy s) (view s n) r)
+      (pick (eqb (r .code) 2) (rollbackChecks (rolledBy s) (view s n) r) (rollChecks (rolledBy s) (view s n) r))))
+  unfolding forwardChecks backwardChecks rollbackChecks rollChecks
+  code-known =
+      cases (eqb (r .code) 0) (λ a. rw a (refl, (refl, (refl, (refl, (refl, (refl, (refl, (refl, tt)))))))))
+      (λ a. cases (eqb (r .code) 1) (λ b. rw (a, b) (refl, (refl, (refl, tt))))
+      (λ b. cases (eqb (r .code) 2) (λ c. rw (a, b, c) (refl, (refl, (refl, tt)))) (λ c. rw (a, b, c) (refl, (refl, (refl, (refl, tt)))))))
+
+  answer-known : isNumber (Theory.answer (rolledBy s) (view s n) r) answers ≡ true
+  unfolding Theory.answer Theory.checksOf
+  answer-known = refusal-known (Theory.checksOf (rolledBy s) (view s n) r) (refl, code-known)
 
 -- ---- its outcome
 
@@ -182,30 +128,26 @@ module _ (s : Script) (n : Images.Net) (r : Request) where
   number-told = Theory.answer (rolledBy s) (view s n) (asked r)
 
   abbrev pub refusedOutcome : Outcome
-  refusedOutcome = record { answer = answerOf number-told; undone = 0; touched = localities 0; net = imageOf s (view s n) }
+  refusedOutcome = Lent.refused (imageOf s (view s n)) (answerOf number-told)
 
   abbrev pub doneOutcome : Outcome
   doneOutcome =
-      record {
-        answer = Answer.Done;
-        undone = Theory.undone (rolledBy s) (view s n) (asked r);
-        touched = localities (Theory.touchedWord (rolledBy s) (view s n) (asked r));
-        net = imageOf s (Theory.netAfter (rolledBy s) (view s n) (asked r));
-      }
+      Lent.done (Theory.undone (rolledBy s) (view s n) (asked r)) (localities (Theory.touchedWord (rolledBy s) (view s n) (asked r)))
+      (imageOf s (Theory.netAfter (rolledBy s) (view s n) (asked r)))
 
-  served-refused : eqb number-told 0 ≡ false → served s n r ≡ refusedOutcome
+  pub served-refused : eqb number-told 0 ≡ false → served s n r ≡ refusedOutcome
   unfolding toldBy Theory.outcome
   served-refused h = rw h refl
 
-  served-done : eqb number-told 0 ≡ true → served s n r ≡ doneOutcome
+  pub served-done : eqb number-told 0 ≡ true → served s n r ≡ doneOutcome
   unfolding toldBy Theory.outcome
   served-done h = rw h refl
 
-  pub served-number : inRange (asked r) ≡ true → number (served s n r .answer) ≡ number-told
-  served-number range =
+  pub served-number : number (served s n r .answer) ≡ number-told
+  served-number =
       cases (eqb number-told 0)
       (λ h. ap (λ (o : Outcome). number (o .answer)) (served-done h) ∙ sym (eqb-true number-told 0 h))
-      (λ h. ap (λ (o : Outcome). number (o .answer)) (served-refused h) ∙ number-of number-told (answer-few s n (asked r) range))
+      (λ h. ap (λ (o : Outcome). number (o .answer)) (served-refused h) ∙ number-of number-told (answer-known s n (asked r)))
 
 -- ---- a call, by what its first three checks say
 
@@ -276,8 +218,8 @@ pub record Left (N : List ℕ) (o : Reply) : Type 0 where
 
 -- an outcome that is refused writes nothing
 refused-outcome : (s : Script) (n : Images.Net) (r : Request) (N : List ℕ) → eqb (Theory.answer (rolledBy s) (view s n) (asked r)) 0 ≡ false
-    → Left N (record { told = told (refusedOutcome s n r); net = afterwards (refusedOutcome s n r) N })
-unfolding afterwards
+    → Left N (record { told = told (refusedOutcome s n r); net = lentAfter (refusedOutcome s n r) N })
+unfolding lentAfter
 refused-outcome s n r N h =
     let no : isDone (refusedOutcome s n r .answer) ≡ false = done-number (Theory.answer (rolledBy s) (view s n) (asked r)) ∙ h in
     record { net = rw no refl; undone = refl; touched = refl }
@@ -296,16 +238,12 @@ left S N Q some = each (call S N Q)
         let s = scriptIn S in
         let n = netIn N in
         let r = requestOf Q in
-        let told-number = told-as S N Q _ e ∙ served-number s n r (in-range S N Q k) in
+        let told-number = told-as S N Q _ e ∙ served-number s n r in
         let not-zero = ne-eqb (Theory.answer (rolledBy s) (view s n) (asked r)) 0 (λ z. some (told-number ∙ z)) in
-        subst (Left N) (sym (e ∙ ap (λ (o : Outcome). record { told = told o; net = afterwards o N }) (served-refused s n r not-zero)))
+        subst (Left N) (sym (e ∙ ap (λ (o : Outcome). record { told = told o; net = lentAfter o N }) (served-refused s n r not-zero)))
         (refused-outcome s n r N not-zero)
 
 -- ---- images that were read
-
-form-good : (f : Form) → isGood f ≡ true → f ≡ Form.Good
-form-good Form.Good h = refl
-form-good Form.Bad h = clash false h refl
 
 -- both are bytes, and good
 pub record Held (S N : List ℕ) : Type 0 where
@@ -315,62 +253,38 @@ pub record Held (S N : List ℕ) : Type 0 where
   pub net : goodNet (scriptIn S) N ≡ true
 
 module _ (S : List ℕ) (b : Bytes S) (h : goodScript S ≡ true) where
-  script-is : readScript S ≡ Read.goodScript (scriptIn S)
-  script-is = let f = form-good (readScript S .form) h in λ i. record { form = f i; script = readScript S .script }
-
-  pub shaped-script : ShapedScript (scriptIn S)
-  shaped-script = script-shaped S (scriptIn S) b script-is
-
-  pub script-range : scriptInRange (scriptIn S) ≡ true
-  script-range = script-read S (scriptIn S) b shaped-script .0 script-is .1
-
--- it has the form, and so its length
-pub net-formed : (N : List ℕ) → isGood (readNet N .form) ≡ true → netFormed N ≡ true
-unfolding readNet
-net-formed N h =
-    cases (netFormed N) (λ t. t)
-    (λ t. clash (isGood (readNet N .form)) h (ap (λ (b : Bool). isGood (pick b (Read.goodNet (netOf N)) Read.badNet .form)) t))
-
-net-length : (s : Script) (N : List ℕ) → goodNet s N ≡ true → eqb (length N) 3600 ≡ true
-unfolding goodNet netFormed
-net-length s N h = and-left (eqb (length N) 3600) _ (net-formed N (and-left (isGood (readNet N .form)) _ h))
+  script-shaped : ShapedScript (scriptIn S)
+  script-shaped = subst ShapedScript (sym (script-in S (script-formed S h))) (shaped-script S b)
 
 module _ (s : Script) (N : List ℕ) (b : Bytes N) (h : goodNet s N ≡ true) where
-  net-is : readNet N ≡ Read.goodNet (netIn N)
-  unfolding goodNet
-  net-is =
-      let f = form-good (readNet N .form) (and-left (isGood (readNet N .form)) _ h) in
-      λ i. record { form = f i; net = readNet N .net }
+  formed : netFormed N ≡ true
+  formed = net-formed N s h
 
-  pub shaped-net : ShapedNet (netIn N)
-  shaped-net = net-shaped N (netIn N) b net-is
+  net-shaped : ShapedNet (netIn N)
+  net-shaped = subst ShapedNet (sym (net-in N formed)) (shaped-net N b)
 
-  -- its bytes are its writing, and it is in range
-  written : (N ≡ netBytes (netIn N)) × (netInRange (netIn N) ≡ true)
-  written = net-read N (netIn N) b shaped-net .0 net-is
-
-  pub net-accepted : Accepted (view s (netIn N))
-  unfolding goodNet
-  net-accepted = accepted-is-tested s (view s (netIn N)) (beyond s (netIn N)) .0 (and-right (isGood (readNet N .form)) _ h)
-
-  -- so the image of its view is its bytes
+  -- the image of its view is its bytes
   pub net-again : netBytes (imageOf s (view s (netIn N))) ≡ N
-  net-again = ap netBytes (image-view s (netIn N) shaped-net (written .1)) ∙ sym (written .0)
+  net-again = ap netBytes (image-view s (netIn N) net-shaped (net-range N formed) ∙ net-in N formed) ∙ net-back N b formed
+
+pub good-held : (S N : List ℕ) → GoodImages S N → Bytes S → Bytes N → Held S N
+good-held S N good bS bN =
+    let (g, h) = images-good S N good in
+    record { script-bytes = bS; net-bytes = bN; script = g; net = h }
 
 module _ (S N : List ℕ) (h : Held S N) where
+  pub held-images : GoodImages S N
+  unfolding imageAnswer
+  held-images = rw (h .script, h .net) refl
+
   pub held-good : Good (scriptIn S) (netIn N)
-  held-good =
-      record {
-        script = script-range S (h .script-bytes) (h .script);
-        net = written (scriptIn S) N (h .net-bytes) (h .net) .1;
-        accepted = net-accepted (scriptIn S) N (h .net-bytes) (h .net);
-      }
+  held-good = good-images S N held-images
 
   pub held-script : ShapedScript (scriptIn S)
-  held-script = shaped-script S (h .script-bytes) (h .script)
+  held-script = script-shaped S (h .script-bytes) (h .script)
 
   pub held-net : ShapedNet (netIn N)
-  held-net = shaped-net (scriptIn S) N (h .net-bytes) (h .net)
+  held-net = net-shaped (scriptIn S) N (h .net-bytes) (h .net)
 
 -- ---- a call that is done
 
@@ -384,9 +298,9 @@ pub record Doing (S N Q : List ℕ) : Type 0 where
   pub replied : reply S N Q ≡ outcomeReply (doneOutcome (scriptIn S) (netIn N) (requestOf Q))
 
 -- an outcome that is done is written
-done-outcome : (s : Script) (n : Images.Net) (r : Request) (N : List ℕ) → eqb (length N) 3600 ≡ true → afterwards (doneOutcome s n r) N ≡ netBytes (doneOutcome s n r .net)
-unfolding afterwards netWritten
-done-outcome s n r N h = rw h refl
+done-outcome : (s : Script) (n : Images.Net) (r : Request) (N : List ℕ) → lentAfter (doneOutcome s n r) N ≡ netBytes (doneOutcome s n r .net)
+unfolding lentAfter
+done-outcome s n r N = refl
 
 pub doing : (S N Q : List ℕ) → number (reply S N Q .told .answer) ≡ 0 → Doing S N Q
 doing S N Q z = each (call S N Q)
@@ -402,7 +316,7 @@ doing S N Q z = each (call S N Q)
         let s = scriptIn S in
         let n = netIn N in
         let r = requestOf Q in
-        let zero-there : Theory.answer (rolledBy s) (view s n) (asked r) ≡ 0 = sym (told-as S N Q _ e ∙ served-number s n r (in-range S N Q k)) ∙ z in
+        let zero-there : Theory.answer (rolledBy s) (view s n) (asked r) ≡ 0 = sym (told-as S N Q _ e ∙ served-number s n r) ∙ z in
         record {
           script = g;
           net = h;
@@ -410,9 +324,9 @@ doing S N Q z = each (call S N Q)
           allowed = zero-there;
           replied =
               e ∙
-              ap (λ (o : Outcome). record { told = told o; net = afterwards o N })
+              ap (λ (o : Outcome). record { told = told o; net = lentAfter o N })
               (served-done s n r (eq-eqb (Theory.answer (rolledBy s) (view s n) (asked r)) 0 zero-there)) ∙
-              ap (λ (b : List ℕ). record { told = told (doneOutcome s n r); net = b }) (done-outcome s n r N (net-length s N h));
+              ap (λ (b : List ℕ). record { told = told (doneOutcome s n r); net = b }) (done-outcome s n r N);
         }
 
 -- good images, a request that is read, and no check that refuses: it is done
@@ -424,7 +338,7 @@ done-when S N Q g h k z = each (call S N Q)
     each (bad-script g′ e) = clash (goodScript S) g g′
     each (bad-net g′ h′ e) = clash (goodNet (scriptIn S) N) h h′
     each (bad-request g′ h′ k′ e) = clash (isRead Q) k k′
-    each (all-read g′ h′ k′ e) = told-as S N Q _ e ∙ served-number (scriptIn S) (netIn N) (requestOf Q) (in-range S N Q k) ∙ z
+    each (all-read g′ h′ k′ e) = told-as S N Q _ e ∙ served-number (scriptIn S) (netIn N) (requestOf Q) ∙ z
 
 -- ---- what the checks of a code allow
 

@@ -1,8 +1,9 @@
 -- The code of a call against its definition: what each part of it knows.
 -- In order: which verdict accepts (`accepts`); what a contract says of a reply (`Replies`); a request that is read is in range (`read-in-range`), one that is
--- not is refused (`request-bad`), one that is read is served (`request-good`); reading answers only what is in range (`script-range`, `net-range`); the verdict
--- is acceptance (`accepts-tested`), so the answer is the definition's (`image-no-script`, `image-no-net`, `image-sizes`, `image-by`); images whose
--- answer is done are good (`images-good`, `good-images`); a call on good images (`good-replies`), and any call (`call-refused`, `answer-good`).
+-- not is refused (`request-bad`), one that is read is served (`request-good`); what is read is good only where it has its form (`script-formed`,
+-- `net-formed`), and is then what the bytes hold (`script-in`, `net-in`), in range (`script-range`, `net-range`); the verdict is acceptance
+-- (`accepts-tested`), so the answer is the definition's (`image-no-script`, `image-no-net`, `image-by`); images whose answer is done are good
+-- (`images-good`, `good-images`); a call on good images (`good-replies`), and any call (`call-refused`, `answer-good`).
 -- Assumes nothing.
 use Prim.Native.Nat.{ℕ}
 use mathlib.Core.Path.{_≡_, refl, sym, ap, _∙_, subst}
@@ -10,8 +11,7 @@ use mathlib.Core.Bool.{Bool, true, false, _&&_, false≢true}
 use mathlib.Core.List.{List}
 use lib.Dec.{eqb}
 use lib.ListN.{length}
-use borrow.Author.Tests.{eqb-true}
-use Rattle.laws.specs.Choice.{pick, cases, clash, agree, and-left, and-right}
+use Rattle.laws.specs.Choice.{pick, cases, agree, and-left, and-right}
 use Rattle.laws.specs.Checks.{all-of, all-at}
 use Rattle.laws.specs.Lists.{getD-tab}
 use Rattle.laws.specs.Words.{wordAt}
@@ -22,13 +22,10 @@ use Rattle.images.specs.Script.{action0, scriptInRange, actionInRange}
 use Rattle.images.specs.Read as Images
 use Rattle.images.specs.Read.{actionOf, actionFormed, scriptOf, scriptFormed, nodesFormed, slotOf, slotFormed, netOf, netFormed, slotsFormed, readScript, readNet}
 use Rattle.images.specs.Shape.{ShapedNet}
-use Rattle.images.specs.declared.Form.{Form}
-use Rattle.images.specs.declared.Form.the-variants as Form
 use Rattle.images.specs.declared.Script.{Script}
 use Rattle.images.specs.declared.Net.{Net}
 use Rattle.images.specs.declared.ScriptRead.{ScriptRead}
 use Rattle.images.specs.declared.NetRead.{NetRead}
-use Rattle.nets.specs.Accepted.{Accepted}
 use Rattle.rules.specs.Same.{isAccepted, accepted-is-tested}
 use Rattle.rules.specs.View.{view, beyond}
 use Rattle.accept.specs.Verdict.{verdictOf}
@@ -36,15 +33,16 @@ use Rattle.accept.specs.Laws.{accepted-verdict}
 use Rattle.accept.specs.declared.Verdict.{Verdict}
 use Rattle.accept.specs.declared.Verdict.the-variants as Verdict
 use Rattle.requests.specs.Answers.{inRange}
-use Rattle.requests.specs.Requests.{asked, isDone, requestOf, readRequest}
+use Rattle.requests.specs.Requests.{asked, isDone, refusal, requestOf, readRequest}
 use Rattle.requests.specs.declared.Request.{Request}
 use Rattle.requests.specs.declared.RequestRead.{RequestRead}
 use Rattle.requests.specs.declared.RequestRead.the-variants as RequestRead
 use Rattle.requests.specs.declared.Answer.{Answer}
 use Rattle.requests.specs.declared.Answer.the-variants as Answer
 use Rattle.requests.specs.declared.Told.{Told}
-use Rattle.rollback.specs.Rollback.{Good}
-use Rattle.machine.specs.Calls.{isGood, scriptIn, netIn, goodScript, goodNet, imageAnswer, GoodImages, served, Reply, told, refusal, afterwards, replyTo, reply}
+use Rattle.step.specs.Lent.{Good}
+use Rattle.step.specs.Stepped.{Serves}
+use Rattle.machine.specs.Calls.{isGood, scriptIn, netIn, goodScript, goodNet, imageAnswer, GoodImages, served, Reply, replyTo, reply}
 
 abbrev pub accepts : Verdict → Bool
 accepts Verdict.Accepted = true
@@ -91,7 +89,7 @@ module _ (s : Script) (n : Net) (net q : List ℕ) where
   request-bad e t is = subst (λ (a : RequestRead). Replies t net (replyTo s n net a)) e (is, refl)
 
   pub request-good : (r : Request) → RequestRead.Request r ≡ readRequest q → (t : Told) (last : List ℕ)
-      → (t ≡ told (served s n r)) × (last ≡ afterwards (served s n r) net) → Replies t last (replyTo s n net (readRequest q))
+      → Serves t last (served s n r) net → Replies t last (replyTo s n net (readRequest q))
   request-good r e t last both = subst (λ (a : RequestRead). Replies t last (replyTo s n net a)) e both
 
 -- ---- the images
@@ -114,24 +112,42 @@ formed-net-range b t =
     ap slotInRange (getD-tab keyCount (λ j. slotOf (partAt 56 b j)) i slot0 l) ∙
     and-right (restZero 56 (partAt 56 b i)) _ (all-at keyCount _ slots i l))
 
--- reading answers only what is in range
-script-range : (b : List ℕ) → goodScript b ≡ true → scriptInRange (scriptIn b) ≡ true
-unfolding readScript
-script-range b there =
-    cases (scriptFormed b)
-    (λ t. let read : readScript b ≡ Images.goodScript (scriptOf b) = rw t refl in ap (λ (z : ScriptRead). scriptInRange (z .script)) read ∙ formed-range b t)
-    (λ t. let read : readScript b ≡ Images.badScript = rw t refl in clash (goodScript b) there (ap (λ (z : ScriptRead). isGood (z .form)) read))
+-- what is read is good exactly where it has its form, and is then what the bytes hold
+module _ (b : List ℕ) where
+  script-is : goodScript b ≡ scriptFormed b
+  unfolding readScript
+  script-is = cases (scriptFormed b) (λ t. rw t refl) (λ t. rw t refl)
 
-net-formed : (b : List ℕ) → isGood (readNet b .form) ≡ true → (netFormed b ≡ true) × (readNet b ≡ Images.goodNet (netOf b))
-unfolding readNet
-net-formed b there =
-    cases (netFormed b) (λ t. (t, rw t refl))
-    (λ t. let read : readNet b ≡ Images.badNet = rw t refl in clash (isGood (readNet b .form)) there (ap (λ (z : NetRead). isGood (z .form)) read))
+  net-is : isGood (readNet b .form) ≡ netFormed b
+  unfolding readNet
+  net-is = cases (netFormed b) (λ t. rw t refl) (λ t. rw t refl)
 
-net-range : (b : List ℕ) → isGood (readNet b .form) ≡ true → netInRange (netIn b) ≡ true
-net-range b there =
-    let (t, read) = net-formed b there in
-    ap (λ (z : NetRead). netInRange (z .net)) read ∙ formed-net-range b t
+  pub script-formed : goodScript b ≡ true → scriptFormed b ≡ true
+  script-formed h = sym script-is ∙ h
+
+  pub net-formed : (s : Script) → goodNet s b ≡ true → netFormed b ≡ true
+  unfolding goodNet
+  net-formed s h = sym net-is ∙ and-left (isGood (readNet b .form)) _ h
+
+  script-held : scriptFormed b ≡ true → readScript b ≡ Images.goodScript (scriptOf b)
+  unfolding readScript
+  script-held t = rw t refl
+
+  net-held : netFormed b ≡ true → readNet b ≡ Images.goodNet (netOf b)
+  unfolding readNet
+  net-held t = rw t refl
+
+  pub script-in : scriptFormed b ≡ true → scriptIn b ≡ scriptOf b
+  script-in t = ap (λ (z : ScriptRead). z .script) (script-held t)
+
+  pub net-in : netFormed b ≡ true → netIn b ≡ netOf b
+  net-in t = ap (λ (z : NetRead). z .net) (net-held t)
+
+  script-range : scriptFormed b ≡ true → scriptInRange (scriptIn b) ≡ true
+  script-range t = ap scriptInRange (script-in t) ∙ formed-range b t
+
+  pub net-range : netFormed b ≡ true → netInRange (netIn b) ≡ true
+  net-range t = ap netInRange (net-in t) ∙ formed-net-range b t
 
 -- ---- acceptance
 
@@ -153,41 +169,30 @@ accepts-tested s n v range =
 
 -- the code's answer is the definition's
 module _ (S N : List ℕ) where
-  good-formed : goodScript S ≡ scriptFormed S
-  unfolding readScript
-  good-formed = cases (scriptFormed S) (λ t. rw t refl) (λ t. rw t refl)
-
   pub image-no-script : scriptFormed S ≡ false → Answer.BadScript ≡ imageAnswer S N
   unfolding imageAnswer
   image-no-script h =
-      let g : goodScript S ≡ false = good-formed ∙ h in
+      let g : goodScript S ≡ false = script-is S ∙ h in
       rw g refl
 
   module _ (f : scriptFormed S ≡ true) where
     by-net : (b : Bool) → goodNet (scriptIn S) N ≡ b → pick b Answer.Done Answer.BadNet ≡ imageAnswer S N
     unfolding imageAnswer
     by-net b e =
-        let g : goodScript S ≡ true = good-formed ∙ f in
+        let g : goodScript S ≡ true = script-is S ∙ f in
         rw (g, e) refl
 
     pub image-no-net : netFormed N ≡ false → Answer.BadNet ≡ imageAnswer S N
     unfolding goodNet readNet
     image-no-net h = by-net false (rw h refl)
 
-    pub image-sizes : netFormed N ≡ true → (length S ≡ 2064) × (length N ≡ 3600)
-    unfolding scriptFormed netFormed
-    image-sizes g = (
-      eqb-true (length S) 2064 (and-left (eqb (length S) 2064) _ f),
-      eqb-true (length N) 3600 (and-left (eqb (length N) 3600) _ g),
-    )
-
     -- by the verdict, where both have their form
     pub image-by : netFormed N ≡ true → ShapedNet (netOf N) → (v : Verdict) → v ≡ verdictOf (scriptOf S) (netOf N) → (b : Bool) → b ≡ accepts v
         → pick b Answer.Done Answer.BadNet ≡ imageAnswer S N
-    unfolding goodNet readNet readScript
+    unfolding goodNet
     image-by g shaped v is-v b is-b =
-        let read-script : readScript S ≡ Images.goodScript (scriptOf S) = rw f refl in
-        let read-net : readNet N ≡ Images.goodNet (netOf N) = rw g refl in
+        let read-script = script-held S f in
+        let read-net = net-held N g in
         by-net b
         ((λ i. isGood (read-net i .form) && isAccepted (read-script i .script) (view (read-script i .script) (read-net i .net))) ∙
         sym (is-b ∙ ap accepts is-v ∙ accepts-tested (scriptOf S) (netOf N) shaped (formed-net-range N g)))
@@ -207,8 +212,8 @@ unfolding goodNet
 good-images script net h =
     let (p, q) = images-good script net h in
     record {
-      script = script-range script p;
-      net = net-range net (and-left (isGood (readNet net .form)) _ q);
+      script = script-range script (script-formed script p);
+      net = net-range net (net-formed net (scriptIn script) q);
       accepted =
           accepted-is-tested (scriptIn script) (view (scriptIn script) (netIn net)) (beyond (scriptIn script) (netIn net)) .0
           (and-right (isGood (readNet net .form)) _ q);

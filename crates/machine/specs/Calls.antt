@@ -1,8 +1,7 @@
 -- One call on bytes, as a customer reads it: script, net and request are any byte strings; the answer, undone and touched; and the bytes of the
 -- net after it. Document 01, "Requests and what comes back".
 -- In order: the images as they are read (`scriptIn`, `netIn`) and whether they are good (`goodScript`, `goodNet`, `imageAnswer`, `GoodImages`); a request on good images, by the
--- theory's outcome (`served`); a reply (`Reply`), a refusal that leaves the net (`refusedWith`), the lent net after an outcome (`afterwards`); the reply to a call (`reply`).
--- What is told of an outcome and of a refusal (`told`, `refusal`) is passed on from below.
+-- theory's outcome (`served`); a reply (`Reply`), a refusal that leaves the net (`refusedWith`); the reply to a call (`reply`).
 -- Assumes nothing.
 use Prim.Native.Nat.{ℕ}
 use mathlib.Core.Path.{_≡_}
@@ -10,7 +9,6 @@ use mathlib.Core.Bool.{Bool, true, false, _&&_}
 use mathlib.Core.List.{List}
 use Rattle.laws.specs.Choice.{pick}
 use Rattle.names.specs.Localities.{localities}
-use Rattle.images.specs.Net.{netWritten}
 use Rattle.images.specs.Read.{readScript, readNet}
 use Rattle.images.specs.declared.Form.{Form}
 use Rattle.images.specs.declared.Form.the-variants as Form
@@ -22,16 +20,14 @@ use Rattle.rules.specs.Same.{isAccepted}
 use Rattle.rules.specs.View.{view}
 use Rattle.rules.specs.Image.{imageOf}
 use Rattle.requests.specs.Answers as Theory
-pub use Rattle.requests.specs.Requests.{refusal}
-use Rattle.requests.specs.Requests.{asked, isDone, answerOf, readRequest}
+use Rattle.requests.specs.Requests.{asked, isDone, answerOf, refusal, readRequest}
 use Rattle.requests.specs.declared.Request.{Request}
 use Rattle.requests.specs.declared.RequestRead.{RequestRead}
 use Rattle.requests.specs.declared.RequestRead.the-variants as RequestRead
 use Rattle.requests.specs.declared.Answer.{Answer}
 use Rattle.requests.specs.declared.Answer.the-variants as Answer
 use Rattle.requests.specs.declared.Told.{Told}
-pub use Rattle.rollback.specs.Rollback.{told}
-use Rattle.rollback.specs.Rollback.{Outcome}
+use Rattle.step.specs.Lent.{Outcome, told, lentAfter}
 
 -- ---- the images
 
@@ -80,13 +76,9 @@ pub record Reply : Type 0 where
 abbrev pub refusedWith : Answer → List ℕ → Reply
 refusedWith a net = record { told = refusal a; net = net }
 
--- the lent net: the outcome's where the call is done, and otherwise as it was
-unfoldable pub afterwards : Outcome → List ℕ → List ℕ
-afterwards o net = pick (isDone (o .answer)) (netWritten (o .net) net) net
-
 -- 3: "request not 6 bytes; code above 3; key above 63; others neither 255 nor in range"
 abbrev pub replyTo : Script → Net → List ℕ → RequestRead → Reply
-replyTo s n net (RequestRead.Request r) = record { told = told (served s n r); net = afterwards (served s n r) net }
+replyTo s n net (RequestRead.Request r) = record { told = told (served s n r); net = lentAfter (served s n r) net }
 replyTo s n net RequestRead.Bad = refusedWith Answer.BadRequest net
 
 -- "Checks run in number order": those of the images, and then those of the request

@@ -1,19 +1,19 @@
 -- Why the demands hold of byte strings: each code by itself, and both loops, for `Demands`. Nothing here must be believed.
 --
 -- In order: a step that is allowed is in range (`can-range`); forward (`forward-when`, `forward-can`, `forward-bytes`, `forward-view`), backward
--- (`backward-when` and its kin), rollback (`rollback-when` and its kin); a slot's bytes (`slot-bytes`); a step and its backward step
+-- (`backward-when` and its kin), rollback (`rollback-when` and its kin); a slot's bytes (`again-is`); a step and its backward step
 -- (`step-back`), a backward step and the same request forward (`back-step`).
 -- Assumes nothing.
 use Prim.Native.Nat.{ℕ, _+_, _*_, _<_}
 use mathlib.Core.Path.{_≡_, refl, sym, ap, _∙_, subst}
-use mathlib.Core.Bool.{Bool, true, false, not}
+use mathlib.Core.Bool.{true, false, not}
 use mathlib.Core.List.{List, [], _∷_}
 use native.Mathlib.Omega.{arith}
 use lib.Dec.{eqb, ltb, leb}
 use lib.ListN.{getD, drop}
 use lib.Seq.{getD-take, getD-drop}
 use borrow.Author.Tests.{eq-eqb, ltb-true, lt-ltb}
-use Rattle.laws.specs.Choice.{pick, cases, and-left, and-right, and-both}
+use Rattle.laws.specs.Choice.{cases, and-right, and-both}
 use Rattle.laws.specs.Lists.{getD-tab}
 use Rattle.order.specs.KeySets.{_∈_}
 use Rattle.order.specs.Words.{wordOf}
@@ -21,8 +21,7 @@ use Rattle.names.specs.Names.{keyCount, localityCount, none, belowOrNone}
 use Rattle.images.specs.Head.{byte, partAt}
 use Rattle.images.specs.Net as I
 use Rattle.images.specs.Net.{netBytes}
-use Rattle.images.specs.Read.{readNet, netOf, slotOf}
-use Rattle.images.specs.Read as Read
+use Rattle.images.specs.Read.{netOf, slotOf}
 use Rattle.images.specs.declared.Script.{Script}
 use Rattle.images.specs.declared.Net as Images
 use Rattle.nets.specs.Rules.{uses, isNewloc, isSplit, secondOf, isThere}
@@ -46,9 +45,10 @@ use Rattle.requests.specs.Answers as Theory
 use Rattle.requests.specs.Answers.{inRange, noPlaces, backwardChecks, rollbackChecks}
 use Rattle.requests.specs.Laws.{can-forward, can-undo}
 use Rattle.requests.specs.Requests.{asked, number, requestOf}
-use Rattle.rollback.specs.Rollback.{Good}
-use Rattle.machine.specs.Calls.{isGood, scriptIn, netIn, goodNet, Reply, reply}
-use Rattle.machine.specs.Bytes.{answer-forward, answer-backward, answer-rollback, Held, held-good, held-script, held-net, net-formed, net-again, doing, done-when, in-range, forward-allowed, backward-allowed, next-bytes, next-held, next-view}
+use Rattle.step.specs.Lent.{Good}
+use Rattle.machine.specs.Calls.{scriptIn, netIn, Reply, reply}
+use Rattle.machine.specs.Called.{net-formed, net-in}
+use Rattle.machine.specs.Bytes.{answer-forward, answer-backward, answer-rollback, Held, held-good, held-script, held-net, net-again, doing, done-when, in-range, forward-allowed, backward-allowed, next-bytes, next-held, next-view}
 
 -- a call's answer
 abbrev told : List ℕ → List ℕ → List ℕ → ℕ
@@ -228,16 +228,12 @@ repeated N k = 0 ∷ k ∷ slotByte N k 5 ∷ slotByte N k 3 ∷ slotByte N k 4 
 part-byte : (N : List ℕ) (k j : ℕ) → j < 56 → byte (partAt 56 N k) j ≡ slotByte N k j
 part-byte N k j l = getD-take 56 (drop (16 + 56 * k) N) j 0 l ∙ getD-drop (16 + 56 * k) N j 0
 
-net-of : (N : List ℕ) → isGood (readNet N .form) ≡ true → netIn N ≡ netOf N
-unfolding readNet
-net-of N h = ap (λ (b : Bool). pick b (Read.goodNet (netOf N)) Read.badNet .net) (net-formed N h)
-
 module _ (S N : List ℕ) (h : Held S N) (k : ℕ) (l : k < keyCount) where
   slot-is : view (scriptIn S) (netIn N) .slot k ≡ slotView (scriptIn S) (slotOf (partAt 56 N k))
-  unfolding goodNet netOf
+  unfolding netOf
   slot-is =
       view-slot (scriptIn S) (netIn N) k l ∙
-      ap (λ (n : Images.Net). slotView (scriptIn S) (I.slotAt n k)) (net-of N (and-left (isGood (readNet N .form)) _ (h .net))) ∙
+      ap (λ (n : Images.Net). slotView (scriptIn S) (I.slotAt n k)) (net-in N (net-formed N (scriptIn S) (h .net))) ∙
       ap (slotView (scriptIn S)) (getD-tab keyCount (λ i. slotOf (partAt 56 N i)) k I.slot0 l)
 
   -- it is the request that the theory repeats

@@ -39,7 +39,7 @@ use Rattle.rules.specs.Theorems.{any-order}
 use Rattle.requests.specs.Checks.{Check, check, refusal, Hold, Numbered, FirstFails, refused-iff, all-hold, none-fails}
 use Rattle.requests.specs.Answers as Theory
 use Rattle.requests.specs.Answers.{Request, inRange, netAfter, forwardChecks, backwardChecks, rollbackChecks, rollChecks}
-use Rattle.requests.specs.Requests.{asked, number, requestOf}
+use Rattle.requests.specs.Requests.{asked, number, answers, isNumber, number-listed, requestOf}
 use Rattle.machine.specs.Calls.{scriptIn, netIn, goodScript, goodNet, reply}
 use Rattle.machine.specs.Bytes as Why
 use Rattle.machine.specs.Bytes.{Held}
@@ -97,7 +97,7 @@ callChecks S N Q =
 -- "Every call ends": `reply` is a function of the three byte strings.
 pub record Demand1 (S N Q : List ℕ) : Type 0 where
   -- "gives one answer from document 01's list, in its order of checks": the number of the first check that does not hold, 0 where all do
-  pub answer-listed : answer S N Q ≤ 12
+  pub answer-listed : isNumber (answer S N Q) answers ≡ true
   pub answer-first : answer S N Q ≡ refusal (callChecks S N Q)
   -- "given exactly when": done where all checks hold, and i where check i does not hold and all before it do
   pub done-when : Done S N Q ↔ Hold (callChecks S N Q)
@@ -226,7 +226,7 @@ module _ (S N Q : List ℕ) where
       each (Why.bad-request g h k e) = Why.told-as S N Q _ e ∙ rw (g, h, k) refl
       each (Why.all-read g h k e) =
           let range = Why.in-range S N Q k in
-          Why.told-as S N Q _ e ∙ Why.served-number (scriptIn S) (netIn N) (requestOf Q) range ∙ code-answer range ∙ rw (g, h, k) refl
+          Why.told-as S N Q _ e ∙ Why.served-number (scriptIn S) (netIn N) (requestOf Q) ∙ code-answer range ∙ rw (g, h, k) refl
 
   -- no check has the number 0
   code-numbered : Numbered (codeChecks S N r)
@@ -242,7 +242,7 @@ module _ (S N Q : List ℕ) where
   pub demand-1 : Demand1 S N Q
   demand-1 =
       record {
-        answer-listed = Why.number-few (reply S N Q .told .answer);
+        answer-listed = number-listed (reply S N Q .told .answer);
         answer-first = first;
         done-when = (λ d. all-hold (callChecks S N Q) all-numbered (sym first ∙ d), λ h. first ∙ none-fails (callChecks S N Q) h);
         refused-when =

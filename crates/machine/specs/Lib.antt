@@ -1,6 +1,7 @@
 -- Calls on bytes. To read: what a call replies (`Calls`) and what the questions answer (`Asks`); the three demands, of byte strings in and out (`Demands`); that any two
--- permitted outcomes agree (`Agree`). The rest are lemmas: what the code does is the theory's outcome (`Served`), the code against the definitions (`Called`, `Asked`), what
--- a net writes (`Written`), the net after a call (`After`), one call (`Bytes`), each code (`Codes`), a request on the lent bytes (`OnBytes`).
+-- permitted outcomes agree (`Agree`). The rest are lemmas: the code against the definitions (`Called`, `Asked`), what
+-- a net writes (`Written`), the net after a call (`After`), one call (`Bytes`), each code (`Codes`), what the code does is the theory's outcome (`Served`), and so on the lent
+-- bytes (`OnBytes`).
 pub mod Calls
 pub mod Asks
 pub mod Demands

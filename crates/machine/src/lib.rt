@@ -1,11 +1,11 @@
 // The public calls: script, net and request are any byte strings. Checks run in number order; the lent net is written only where a call is
 // done, so a refusal leaves every byte.
 ghost use mathlib.Core.Path.{_≡_};
-ghost use mathlib.Core.Bool.{true, false};
-ghost use lib.Dec.{eqb};
+ghost use mathlib.Core.Bool.{true};
 ghost use Rattle.requests.specs.Answers.{inRange};
 ghost use Rattle.requests.specs.Requests.{asked};
-ghost use Rattle.machine.specs.Calls.{scriptIn, netIn, imageAnswer, GoodImages, served, told, afterwards, reply};
+ghost use Rattle.step.specs.Lent.{told, lentAfter};
+ghost use Rattle.machine.specs.Calls.{scriptIn, netIn, imageAnswer, GoodImages, served, reply};
 ghost use Rattle.machine.specs.Called.{accepts};
 use accept::Verdict;
 use accept::accept;
@@ -20,12 +20,11 @@ use requests::refused;
 use rollback::roll;
 use rollback::rollback;
 use step::Check;
+use step::backward::backward;
 use step::checks::all_hold;
-use steps::backward_on;
-use steps::forward_on;
+use step::forward::forward;
 
 pub mod asks;
-pub mod steps;
 
 // ---- the images
 
@@ -62,32 +61,22 @@ pub fn image_answer(script: &[u8], net: &[u8]) -> Answer
 
 // ---- a request on good images
 
-// "2 rollback of the named event, 3 roll by the named live process": no code below 2 is left.
-fn rollback_on(script: &[u8], net: &mut [u8], r: Request) -> Told
+// "Codes: 0 forward, 1 backward, 2 rollback of the named event, 3 roll by the named live process."
+fn serve(script: &[u8], net: &mut [u8], r: Request) -> Told
     requires { ⌜ GoodImages (now script) (now net) × (inRange (asked r) ≡ true) ⌝ }
-    requires { ⌜ (eqb (r .code) 0 ≡ false) × (eqb (r .code) 1 ≡ false) ⌝ }
     ensures { λ t. ⌜ t ≡ told (served (scriptIn (now (script .entry))) (netIn (now (net .entry))) r) ⌝ }
-    ensures { λ _. ⌜ now (net .exit) ≡ afterwards (served (scriptIn (now (script .entry))) (netIn (now (net .entry))) r) (now (net .entry)) ⌝ }
+    ensures { λ _. ⌜ now (net .exit) ≡ lentAfter (served (scriptIn (now (script .entry))) (netIn (now (net .entry))) r) (now (net .entry)) ⌝ }
 {
+    if r.code == Request::FORWARD {
+        return forward(script, net, r);
+    }
+    if r.code == Request::BACKWARD {
+        return backward(script, net, r);
+    }
     if r.code == Request::ROLLBACK {
         return rollback(script, net, r);
     }
     roll(script, net, r)
-}
-
-// "Codes: 0 forward, 1 backward, 2 rollback of the named event, 3 roll by the named live process."
-pub fn serve(script: &[u8], net: &mut [u8], r: Request) -> Told
-    requires { ⌜ GoodImages (now script) (now net) × (inRange (asked r) ≡ true) ⌝ }
-    ensures { λ t. ⌜ t ≡ told (served (scriptIn (now (script .entry))) (netIn (now (net .entry))) r) ⌝ }
-    ensures { λ _. ⌜ now (net .exit) ≡ afterwards (served (scriptIn (now (script .entry))) (netIn (now (net .entry))) r) (now (net .entry)) ⌝ }
-{
-    if r.code == Request::FORWARD {
-        return forward_on(script, net, r);
-    }
-    if r.code == Request::BACKWARD {
-        return backward_on(script, net, r);
-    }
-    rollback_on(script, net, r)
 }
 
 // ---- a call

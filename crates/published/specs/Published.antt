@@ -5,15 +5,14 @@
 -- the backward call of an event leads to a net exactly when the reversal of Table VII of that event does (`backward-published`).
 -- Assumes nothing.
 use Prim.Native.Nat.{ℕ}
-use mathlib.Core.Path.{_≡_, refl, sym, _∙_, subst}
+use mathlib.Core.Path.{_≡_, sym, _∙_}
 use mathlib.Core.Logic.{_↔_}
 use mathlib.Core.List.{List}
 use Rattle.laws.specs.Words.{Bytes}
 use Rattle.nets.specs.Net.{Net}
 use Rattle.nets.specs.Forward as Forward
-use Rattle.nets.specs.Forward.{Forward, forward, Can}
+use Rattle.nets.specs.Forward.{Forward, forward}
 use Rattle.nets.specs.Undo.{undo, Undoable}
-use Rattle.nets.specs.Accepted.{Accepted}
 use Rattle.rules.specs.Instance.{rulesOf}
 use Rattle.requests.specs.Answers as Theory
 use Rattle.tables.specs.Table.{Step}

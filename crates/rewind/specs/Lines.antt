@@ -1,11 +1,11 @@
 -- The text of an answer. Document 01: "prints a line each: answer, undone in decimal, touched as 8 lower-case hex digits".
--- In order: a number below 100 (`decimal`), a hex digit (`hexDigit`), four and eight of them (`hexFour`, `hexWord`); the numbers beside an answer
+-- In order: a number below 100 (`decimal`), as an answer's is (`number-short`), a hex digit (`hexDigit`), four and eight of them (`hexFour`, `hexWord`); the numbers beside an answer
 -- (`numbersOf`), a line (`lineOf`), which is short (`line-short`), and one whose numbers are 0 (`line-nothing`); what putting bytes into an output
 -- leaves (`Puts`), of one byte (`puts-one`) and of bytes after bytes (`puts-more`).
 -- Assumes nothing.
 use Prim.Native.Nat.{ℕ, _+_, _/_, _%_, _<_, _≤_}
 use mathlib.Core.Path.{_≡_, refl, sym, ap, _∙_, subst}
-use mathlib.Core.Bool.{Bool, true, _&&_}
+use mathlib.Core.Bool.{Bool, true, false, _&&_}
 use mathlib.Core.List.{List, [], _∷_, _++_, append-assoc}
 use native.Mathlib.Nat.{add-assoc}
 use native.Mathlib.Numerals.{add-one}
@@ -13,9 +13,10 @@ use native.Mathlib.Omega.{arith}
 use lib.Dec.{ltb, eqb}
 use lib.ListN.{length, take, set, length-append, length-set}
 use lib.Seq.{take-suc-set}
-use borrow.Author.Tests.{eqb-true}
-use Rattle.laws.specs.Choice.{pick, cases, and-left, and-right}
-use Rattle.requests.specs.Requests.{number}
+use borrow.Author.Tests.{eqb-true, ltb-true}
+use Rattle.laws.specs.Choice.{pick, cases, clash, and-left, and-right}
+use Rattle.requests.specs.Requests.{number, answers, isNumber, number-listed}
+use Rattle.requests.specs.declared.Answer.{Answer}
 use Rattle.requests.specs.declared.Told.{Told}
 
 -- ---- a line
@@ -23,6 +24,20 @@ use Rattle.requests.specs.declared.Told.{Told}
 -- a number below 100, without a zero in front
 unfoldable pub decimal : ℕ → List ℕ
 decimal n = pick (ltb n 10) ((48 + n) ∷ []) ((48 + n / 10) ∷ (48 + n % 10) ∷ [])
+
+-- an answer's number is one of the list's, which are all below 100
+abbrev allShort : List Answer → Bool
+allShort [] = true
+allShort (a ∷ rest) = ltb (number a) 100 && allShort rest
+
+short-in : (k : ℕ) (l : List Answer) → allShort l ≡ true → isNumber k l ≡ true → k < 100
+short-in k [] s h = clash false h refl
+short-in k (a ∷ rest) s h =
+    cases (eqb k (number a)) (λ t. omega (arith, eqb-true k (number a) t, ltb-true (number a) 100 (and-left (ltb (number a) 100) _ s)))
+    (λ t. short-in k rest (and-right (ltb (number a) 100) _ s) (rw t at h))
+
+pub number-short : (a : Answer) → number a < 100
+number-short a = short-in (number a) answers refl (number-listed a)
 
 abbrev pub hexDigit : ℕ → ℕ
 hexDigit d = pick (ltb d 10) (48 + d) (87 + d)

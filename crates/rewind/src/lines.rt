@@ -4,7 +4,7 @@ ghost use mathlib.Core.Path.{_≡_};
 ghost use Prim.Native.Nat.{_+_, _≤_, _<_};
 ghost use mathlib.Core.List.{[], _∷_};
 ghost use lib.ListN.{length};
-ghost use Rattle.machine.specs.Calls.{refusal};
+ghost use Rattle.requests.specs.Requests.{refusal};
 ghost use Rattle.rewind.specs.Lines.{lineSize, Puts, decimal, hexDigit, hexFour, hexWord, numbersOf, tellsNothing, lineOf};
 use names::Localities;
 use requests::Answer;

@@ -1,5 +1,5 @@
 -- `rewind_call` meets its contract. Assumes nothing.
-use mathlib.Core.Path.{_≡_, ap, _∙_}
+use mathlib.Core.Path.{ap, _∙_}
 use Rattle.exports.specs.Packed.{packedTold}
 use borrow.Author.Needs.{needs}
 use Rattle.exports.proofs.rewind_call.Statement.{statement}

@@ -1,5 +1,5 @@
 -- `call` meets its contract. Assumes nothing.
-use mathlib.Core.Path.{_≡_, sym, _∙_}
+use mathlib.Core.Path.{sym, _∙_}
 use denote.Ref.{now}
 use Rattle.step.specs.Tests.{holds-true, fails-false}
 use Rattle.machine.specs.Called.{call-refused, answer-good}

@@ -1,5 +1,5 @@
 -- `call_on` meets its contract. Assumes nothing.
-use mathlib.Core.Path.{_≡_, sym, _∙_}
+use mathlib.Core.Path.{sym, _∙_}
 use denote.Ref.{now}
 use Rattle.machine.specs.Calls.{scriptIn, netIn}
 use Rattle.machine.specs.Called.{read-in-range, request-bad, request-good, good-replies}

@@ -1,10 +1,11 @@
 -- `image_answer` meets its contract. Assumes nothing.
-use mathlib.Core.Path.{_≡_, sym, _∙_}
+use mathlib.Core.Path.{sym, _∙_}
 use mathlib.Core.Bool.{true, false}
 use denote.Ref.{now}
 use borrow.Author.Tests.{not-true, not-false}
 use Rattle.images.specs.Round.{shaped-net}
-use Rattle.machine.specs.Called.{image-no-script, image-no-net, image-sizes, image-by}
+use Rattle.images.specs.Sizes.{script-sized, net-sized}
+use Rattle.machine.specs.Called.{image-no-script, image-no-net, image-by}
 use borrow.Author.Needs.{needs}
 use Rattle.machine.proofs.image_answer.Statement.{statement}
 use Rattle.machine.proofs.image_answer.Tie as tie
@@ -28,7 +29,7 @@ returns-2 : tie.Need-returns-2
 returns-2 c = image-no-net (now (c .before .before .before .before .before .before .args .script)) (now (c .before .before .before .before .before .before .args .net)) (sym (c .before .before .before .script-formed .ensures) ∙ not-false _ (c .before .before .if1 .left)) (sym (c .before .net-formed .ensures) ∙ not-true _ (c .if2 .taken))
 
 accept-requires : tie.Need-accept-requires
-accept-requires c κs = image-sizes (now (c .before .before .before .before .before .before .args .script)) (now (c .before .before .before .before .before .before .args .net)) (sym (c .before .before .before .script-formed .ensures) ∙ not-false _ (c .before .before .if1 .left)) (sym (c .before .net-formed .ensures) ∙ not-false _ (c .if2 .left))
+accept-requires c κs = (script-sized (now (c .before .before .before .before .before .before .args .script)) (sym (c .before .before .before .script-formed .ensures) ∙ not-false _ (c .before .before .if1 .left)), net-sized (now (c .before .before .before .before .before .before .args .net)) (sym (c .before .net-formed .ensures) ∙ not-false _ (c .if2 .left)))
 
 is-accepted-requires : tie.Need-is-accepted-requires
 is-accepted-requires c κs = search needs

@@ -5,8 +5,8 @@ use mathlib.Core.Path.{_≡_, refl, sym, ap, _∙_}
 use native.Mathlib.Omega.{arith}
 use denote.Ref.{now}
 use lib.ListN.{length}
-use Rattle.machine.specs.Bytes.{Held}
-use Rattle.machine.specs.OnBytes.{net-size, good-held, held-images}
+use Rattle.machine.specs.Bytes.{Held, good-held, held-images}
+use Rattle.machine.specs.OnBytes.{net-size}
 use Rattle.rewind.specs.Run.{runOf, answered, reply-few, last-held, one-more, run-first, run-next}
 use borrow.Author.Needs.{needs}
 use Rattle.rewind.proofs.answer_chunk.Statement.{statement}

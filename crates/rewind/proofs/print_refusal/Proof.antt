@@ -1,6 +1,6 @@
 -- `print_refusal` is safe and ends. Assumes nothing.
 use native.Mathlib.Omega.{arith}
-use Rattle.machine.specs.Calls.{refusal}
+use Rattle.requests.specs.Requests.{refusal}
 use Rattle.rewind.specs.Lines.{line-short}
 use borrow.Author.Needs.{needs}
 use Rattle.rewind.proofs.print_refusal.Statement.{statement}

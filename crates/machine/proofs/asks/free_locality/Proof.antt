@@ -1,5 +1,5 @@
 -- `free_locality` meets its contract: it is refused with the answer of the images, or answered. Assumes nothing.
-use mathlib.Core.Path.{_≡_, refl, sym, _∙_}
+use mathlib.Core.Path.{refl, sym, _∙_}
 use denote.Ref.{now}
 use Rattle.step.specs.Tests.{holds-true, fails-false}
 use Rattle.machine.specs.Asked.{good-sizes, locality-no, locality-yes}

@@ -3,8 +3,7 @@ use Prim.Native.Nat.{ℕ}
 use mathlib.Core.Path.{sym, ap, _∙_}
 use mathlib.Core.List.{_++_}
 use native.Mathlib.Omega.{arith}
-use Rattle.machine.specs.Bytes.{number-few}
-use Rattle.rewind.specs.Lines.{decimal, numbersOf, lineOf, decimal-short, line-nothing, puts-more, puts-same}
+use Rattle.rewind.specs.Lines.{decimal, number-short, numbersOf, lineOf, decimal-short, line-nothing, puts-more, puts-same}
 use borrow.Author.Needs.{needs}
 use Rattle.rewind.proofs.lines.put_line.Statement.{statement}
 use Rattle.rewind.proofs.lines.put_line.Tie as tie
@@ -20,7 +19,7 @@ number-requires : tie.Need-number-requires
 number-requires c κs = search needs
 
 put-decimal-requires : tie.Need-put-decimal-requires
-put-decimal-requires c κs = (omega (arith, c .before .number .ensures, number-few (c .before .before .before .args .t .answer)), omega (arith, c .before .before .before .pre .1))
+put-decimal-requires c κs = (omega (arith, c .before .number .ensures, number-short (c .before .before .before .args .t .answer)), omega (arith, c .before .before .before .pre .1))
 
 tells-nothing-requires : tie.Need-tells-nothing-requires
 tells-nothing-requires c κs = search needs
