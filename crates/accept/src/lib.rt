@@ -1,6 +1,7 @@
 // Which nets are accepted, for images of a script and a net that have their form; both are looked at where they stand. One function a
 // clause, in the order of document 01's paragraph; what events made and used is found once, and the last clause, that dependence has no
 // cycle, asks the crate below.
+#![tactic(auto)]
 ghost use Rattle.std.specs.Prelude.{◌≡◌};
 ghost use Rattle.images.specs.Read.{script_of, net_of};
 ghost use Rattle.images.specs.Sizes.{Sized, Scripted};
@@ -15,7 +16,7 @@ use whole::{localities_right, roots_right, tuples_right};
 pub mod whole;
 
 // Whether a net is accepted; if not, the first clause that does not hold.
-#[derive(Drop)]
+#[derive(Clone, Copy)]
 pub enum Verdict {
     Accepted,
     // A past record, or what it made, does not agree with its rule.

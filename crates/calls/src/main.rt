@@ -1,6 +1,7 @@
 // Holds the calls on bytes against the second program. Standard input is a stream of items (docs/REFERENCE.md): 'S' a script and 'N' a net, of
 // any length; 'P' a change of one byte of the net, 'B' the net as it was given; 'C' a call, 'F' the finder, 'K' the least free key, 'L' the least
 // absent locality. Each of the last four prints a line.
+#![tactic(auto)]
 use libc::{STDIN_FILENO, STDOUT_FILENO};
 use machine::asks::{find, free_key, free_locality};
 use machine::call;
@@ -10,7 +11,7 @@ use requests::{Answer, Told, number};
 const ROOM: usize = 4096;
 
 // How much of its room each of the three has, and whether there may be more items.
-#[derive(Drop)]
+#[derive(Clone, Copy)]
 struct Lengths {
     script: usize,
     net: usize,

@@ -1,6 +1,7 @@
 // Holds the form of images against the second program. Standard input: a script, a net, and cases of four bytes. A case changes one
 // byte of the script ('S') or the net ('N'), or takes only so many bytes of it ('s', 'n'; one more than it has is allowed, and is 0).
 // Each case prints a line: the case, and whether what it makes has the form. A net that has it must be written as it was read.
+#![tactic(auto)]
 use images::Form;
 use images::net_image::{read_net, write_net};
 use images::script_image::read_script;

@@ -1,5 +1,6 @@
 // The two images of document 01, taken apart into values and, for the net, put together again. A value of these types may hold any
 // bytes; which are in range is said in specs/, and reading answers only those.
+#![tactic(auto)]
 pub mod head;
 pub mod net_image;
 pub mod script_image;
@@ -7,7 +8,7 @@ pub mod script_image;
 use names::{Key, Localities, Locality, Node, Reference, Variable};
 
 // Whether a byte string is an image.
-#[derive(Drop)]
+#[derive(Clone, Copy)]
 pub enum Form {
     // It is the writing of a value in range.
     Good,
@@ -16,7 +17,7 @@ pub enum Form {
 }
 
 // A field of a node: a value, a literal locality, a variable or a formal, by its tag.
-#[derive(Drop)]
+#[derive(Clone, Copy)]
 pub struct Field {
     pub tag: u8,
     pub number: u32,
@@ -41,7 +42,7 @@ impl Field {
 }
 
 // A node of the script, as what it does.
-#[derive(Drop)]
+#[derive(Clone, Copy)]
 pub struct Action {
     pub kind: u8,
     pub next: Node,
@@ -85,7 +86,7 @@ pub struct ScriptRead {
 }
 
 // Which places a kind of node uses: document 01's table of eight rows.
-#[derive(Drop)]
+#[derive(Clone, Copy)]
 pub struct Row {
     pub next: bool,
     pub other: bool,
@@ -110,7 +111,7 @@ impl Row {
 }
 
 // A variable of a process or a field of a tuple: unset, a value or a locality, by its tag.
-#[derive(Drop)]
+#[derive(Clone, Copy)]
 pub struct Datum {
     pub tag: u8,
     pub number: u32,
@@ -125,7 +126,7 @@ impl Datum {
 }
 
 // A record of the net: free, a process or a tuple, by its kind.
-#[derive(Drop)]
+#[derive(Clone, Copy)]
 pub struct Slot {
     pub kind: u8,
     pub locality: Locality,
@@ -171,7 +172,7 @@ pub struct NetRead {
 }
 
 // Whether a net was written.
-#[derive(Drop)]
+#[derive(Clone, Copy)]
 pub enum Written {
     Done,
     // The lent bytes are not as many as an image has, and stay as they were.

@@ -11,7 +11,7 @@ use step::Check;
 use step::checks::all_hold;
 
 // The answer, and the locality; none where there is none.
-#[derive(Drop)]
+#[derive(Clone, Copy)]
 pub struct FoundLocality {
     pub answer: Answer,
     pub locality: Locality,

@@ -1,5 +1,6 @@
 // What a process's fields stand for, where it acts, and whether its template meets a tuple: each answers an enum of its own. The process is a
 // value, its eight variables; a node and a tuple are looked at where they stand, in their 32 and 56 bytes.
+#![tactic(auto)]
 ghost use Rattle.std.specs.Prelude.{◌≡◌, ◌<◌, set};
 ghost use Rattle.names.specs.Names.{variable_count};
 ghost use Rattle.images.specs.Sizes.{NodeSized, SlotSized, Sized};
@@ -14,7 +15,7 @@ use images::{Action, Datum, Field};
 use names::{Key, Locality, LocalityRead, Variable, VariableRead};
 
 // What a field stands for.
-#[derive(Drop)]
+#[derive(Clone, Copy)]
 pub enum Evaluated {
     Set(Datum),
     // A variable that is unset.
@@ -22,14 +23,14 @@ pub enum Evaluated {
 }
 
 // Where a process acts.
-#[derive(Drop)]
+#[derive(Clone, Copy)]
 pub enum Target {
     At(Locality),
     // The target is a variable that is unset, or holds no locality.
     Missing,
 }
 
-#[derive(Drop)]
+#[derive(Clone, Copy)]
 pub enum Match {
     // The tuple meets the template.
     Matches,

@@ -1,5 +1,6 @@
 // The names of document 01, "Names and images": keys, localities, variables and nodes are four disjoint sets, so each is a type of
 // its own, and nothing that takes one accepts another. References hold keys. Sets of localities are the bits of a word.
+#![tactic(auto)]
 ghost use Rattle.std.specs.Prelude.{◌≡◌, ◌<◌, ltb};
 ghost use Rattle.names.specs.Names.{key_count, locality_count, below_or_none, is_key, is_locality, is_node, is_reference_or_none, key_of, key_or_none, locality_of, locality_or_none, variable_of, node_of};
 ghost use Rattle.names.specs.Localities.{localities, holds, joined, parted};
@@ -9,53 +10,53 @@ ghost use Rattle.names.specs.KeySets.{is_in, including, excluding, either, both,
 pub const NONE: u8 = 255;
 
 // A slot of the net, 0..63, or none.
-#[derive(Drop)]
+#[derive(Clone, Copy)]
 pub struct Key(pub u8);
 
 // A place of the net, 0..31, or none.
-#[derive(Drop)]
+#[derive(Clone, Copy)]
 pub struct Locality(pub u8);
 
 // One of a process's eight variables.
-#[derive(Drop)]
+#[derive(Clone, Copy)]
 pub struct Variable(pub u8);
 
 // A node of the script, 0..63.
-#[derive(Drop)]
+#[derive(Clone, Copy)]
 pub struct Node(pub u8);
 
 // One of a process's four references, 0..3, or none.
-#[derive(Drop)]
+#[derive(Clone, Copy)]
 pub struct Reference(pub u8);
 
 // A set of keys: bit n is key n.
-#[derive(Drop)]
+#[derive(Clone, Copy)]
 pub struct Keys(pub u64);
 
 // A set of localities: bit n is locality n.
-#[derive(Drop)]
+#[derive(Clone, Copy)]
 pub struct Localities(pub u32);
 
-#[derive(Drop)]
+#[derive(Clone, Copy)]
 pub enum KeyRead {
     Key(Key),
     // No key, and no mark for none where that may stand.
     Bad,
 }
 
-#[derive(Drop)]
+#[derive(Clone, Copy)]
 pub enum LocalityRead {
     Locality(Locality),
     Bad,
 }
 
-#[derive(Drop)]
+#[derive(Clone, Copy)]
 pub enum VariableRead {
     Variable(Variable),
     Bad,
 }
 
-#[derive(Drop)]
+#[derive(Clone, Copy)]
 pub enum NodeRead {
     Node(Node),
     Bad,

@@ -1,1 +1,2 @@
 // Theory: graphs over keys, in specs/.
+#![tactic(auto)]

@@ -1,5 +1,6 @@
 // What a step makes, by the kind of its node: a continuation, and besides it a tuple, a process or nothing. Forward steps write what
 // these functions give, and acceptance compares with it.
+#![tactic(auto)]
 ghost use Rattle.std.specs.Prelude.{◌≡◌, true};
 ghost use Rattle.laws.specs.Choice.{pick};
 ghost use Rattle.laws.specs.Lists.{tab};
@@ -19,7 +20,7 @@ use matching::{Target, actual_of, bind, fields_ready, find_target, with_variable
 use names::{Key, Localities, Locality, Node, Reference, Variable, VariableRead};
 
 // Whether what a node needs can be evaluated.
-#[derive(Drop)]
+#[derive(Clone, Copy)]
 pub enum Readiness {
     // It can, and the step acts here: at the node's target, or, where it has none, where the process is.
     Ready(Locality),

@@ -1,1 +1,2 @@
 // Theory: the calls on bytes are the published rules, in specs/.
+#![tactic(auto)]

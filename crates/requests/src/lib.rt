@@ -1,11 +1,12 @@
 // A request, as its six bytes say, and what a call tells: the answers that it may give, and the numbers beside them.
+#![tactic(auto)]
 ghost use Rattle.std.specs.Prelude.{◌≡◌};
 ghost use Rattle.requests.specs.Requests.{number, refusal, read_request};
 
 use names::{Key, KeyRead, Localities, Locality, LocalityRead};
 
 // What a call is asked: codes 0 forward, 1 backward, 2 rollback, 3 roll. A place that the code has no need for is none.
-#[derive(Drop)]
+#[derive(Clone, Copy)]
 pub struct Request {
     pub code: u8,
     pub key: Key,
@@ -29,7 +30,7 @@ impl Request {
     pub const ROLL: u8 = 3;
 }
 
-#[derive(Drop)]
+#[derive(Clone, Copy)]
 pub enum RequestRead {
     Request(Request),
     // Not six bytes, or a name out of its range.
@@ -37,7 +38,7 @@ pub enum RequestRead {
 }
 
 // Document 01's table, in its order.
-#[derive(Drop)]
+#[derive(Clone, Copy)]
 pub enum Answer {
     Done,
     // The script's length or form.
@@ -65,7 +66,7 @@ pub enum Answer {
 }
 
 // What a call tells beside the net: its answer, how many events were undone, and the localities at which a slot became free.
-#[derive(Drop)]
+#[derive(Clone, Copy)]
 pub struct Told {
     pub answer: Answer,
     pub undone: u8,

@@ -1,5 +1,6 @@
 // The program of document 01: "The program `rewind` reads from standard input one script, one net, then requests, and prints a line each:
 // answer, undone in decimal, touched as 8 lower-case hex digits."
+#![tactic(auto)]
 ghost use Rattle.std.specs.Prelude.{◌≡◌, ◌-◌, ◌*◌, ◌/◌, ◌%◌, ◌≤◌, length, take, drop};
 ghost use Rattle.machine.specs.Calls.{GoodImages};
 ghost use Rattle.rewind.specs.Lines.{line_size};

@@ -29,7 +29,7 @@ use requests::{Answer, Request, Told, refused};
 // ---- 12: whether the event may be undone
 
 // What must be undone before an event may be.
-#[derive(Drop)]
+#[derive(Clone, Copy)]
 pub enum Way {
     // Nothing.
     Clear,

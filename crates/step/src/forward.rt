@@ -33,7 +33,7 @@ use requests::{Answer, Request, Told, refused};
 // ---- the checks
 
 // What the checks of a forward step find.
-#[derive(Drop)]
+#[derive(Clone, Copy)]
 pub enum Allowed {
     // None refuses it, and the step acts here.
     At(Locality),

@@ -1,5 +1,6 @@
 // What the events of a net made and used, found once: the keys and localities made and the tuples taken as sets, and who depends on whom
 // as a set for each event.
+#![tactic(auto)]
 ghost use Rattle.std.specs.Prelude.{◌≡◌};
 ghost use Rattle.images.specs.Read.{script_of, net_of};
 ghost use Rattle.images.specs.Sizes.{Sized, Scripted};
@@ -11,13 +12,13 @@ use images::{Action, Slot};
 use names::{Key, Keys, Localities, Locality};
 
 // Keys that events speak of, and whether each was spoken of once.
-#[derive(Drop)]
+#[derive(Clone, Copy)]
 pub struct KeyMarks {
     pub once: bool,
     pub keys: Keys,
 }
 
-#[derive(Drop)]
+#[derive(Clone, Copy)]
 pub struct PlaceMarks {
     pub once: bool,
     pub set: Localities,

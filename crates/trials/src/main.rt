@@ -1,6 +1,7 @@
 // Holds acceptance and single steps against the second program. Standard input is a stream of trials (docs/REFERENCE.md): 'S' a script, 'N' a
 // net, 'P' a change of one byte of the net, 'B' the net as it was given, 'V' whether it is accepted, 'R' a request. Each 'V' and 'R' prints
 // a line: the answer, and of a request also undone, touched, and the check sum of the net's bytes after it.
+#![tactic(auto)]
 use libc::{STDIN_FILENO, STDOUT_FILENO};
 use machine::{call, image_answer};
 use requests::{Told, number};

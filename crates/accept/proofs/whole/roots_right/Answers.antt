@@ -1,0 +1,34 @@
+use mathlib.Core.Path.{◌≡◌, ◌∙◌, sym}
+use mathlib.Core.Bool.{true}
+use Prim.Native.Nat.{◌-◌}
+use native.Mathlib.Omega.{arith}
+use borrow.Author.Count.{below_none, below_more}
+use borrow.Author.Tests.{not-true, not_false}
+use Rattle.laws.specs.Checks.{all_of, all_not}
+use Rattle.images.specs.Read.{net_of}
+use Rattle.accept.specs.Whole.{root_right, roots_right}
+use Rattle.accept.specs.Told.{root_at}
+use Rattle.std.proofs.Common.{rules}
+use Rattle.accept.proofs.whole.roots_right.Goals as goal
+
+pub loop-k-init : goal.loop-k-init
+loop-k-init c = (search rules, below_none _)
+
+pub returns-then-not-root_right : goal.returns-then-not-root_right
+unfolding roots_right
+returns-then-not-root_right c =
+    let turn = c.before.before.before.before.before in
+    let a = turn.before.before.before.args in
+    sym (all_not 64 _ turn.loop.k c.loop-k-test.true (root_at (net_of a.net.now) a.made turn.loop.k turn.before.present-in.ensures c.slot_at-x.ensures c.has-by_event.ensures c.root_right.ensures ∙ not-true _ c.if-not-root_right.true))
+
+pub loop-k-preserved : goal.loop-k-preserved
+loop-k-preserved c =
+    let turn = c.before.before.before.before.before in
+    let a = turn.before.before.before.args in
+    (search rules, below_more _ _ turn.loop.invariant.1 (root_at (net_of a.net.now) a.made turn.loop.k turn.before.present-in.ensures c.slot_at-x.ensures c.has-by_event.ensures c.root_right.ensures ∙ not_false _ c.if-not-root_right.false))
+
+pub returns : goal.returns
+unfolding roots_right
+returns c =
+    let e : c.loop-k.k ≡ 64 = omega arith in
+    sym (all_of 64 _ (rw e at c.loop-k.invariant.1))

@@ -1,0 +1,38 @@
+use mathlib.Core.Path.{◌≡◌, sym}
+use mathlib.Core.Bool.{true}
+use Prim.Native.Nat.{◌-◌}
+use native.Mathlib.Omega.{arith}
+use borrow.Author.Count.{below_none, below_more}
+use borrow.Author.Tests.{not-true, not_false}
+use Rattle.laws.specs.Checks.{all_of, all_not}
+use Rattle.names.specs.Names.{key_count}
+use Rattle.agreement.specs.Looked.{no_event, event_told}
+use Rattle.std.proofs.Common.{rules}
+use Rattle.agreement.proofs.events_agree.Goals as goal
+
+pub loop-k-init : goal.loop-k-init
+loop-k-init c = (search rules, below_none _)
+
+pub loop-k-preserved-then-x-ne-PAST : goal.loop-k-preserved-then-x-ne-PAST
+loop-k-preserved-then-x-ne-PAST c = (search rules, below_more _ _ c.loop-k.invariant.1 (no_event _ _ _ c.slot_at-x.ensures c.if-x-ne-PAST.true))
+
+pub returns-then-not-event_agrees : goal.returns-then-not-event_agrees
+returns-then-not-event_agrees c =
+    let turn = c.before.before.before.before.before.before in
+    let event = c.before.before in
+    sym (all_not key_count _ turn.loop.k c.loop-k-test.true
+    (event_told _ _ _ event.before.before.slot_at.ensures event.if1.false c.event_agrees.ensures (not-true _ c.if-not-event_agrees.true)))
+
+pub loop-k-preserved : goal.loop-k-preserved
+loop-k-preserved c =
+    let turn = c.before.before.before.before.before.before in
+    let event = c.before.before in (
+      search rules,
+      below_more _ _ turn.loop.invariant.1
+          (event_told _ _ _ event.before.before.slot_at.ensures event.if1.false c.event_agrees.ensures (not_false _ c.if-not-event_agrees.false)),
+    )
+
+pub returns : goal.returns
+returns c =
+    let e : c.loop-k.k ≡ key_count = omega arith in
+    sym (all_of key_count _ (rw e at c.loop-k.invariant.1))

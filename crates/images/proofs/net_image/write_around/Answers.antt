@@ -1,0 +1,9 @@
+use mathlib.Core.Path.{refl, ◌∙◌}
+use Rattle.laws.specs.Parts.{put_around}
+use Rattle.images.specs.Round.{slot_keeping}
+use Rattle.images.proofs.net_image.write_around.Goals as goal
+
+pub returns : goal.returns
+returns c =
+    put_around 8 44 4 c.args.p.now _ _ _ _ c.requires.0 c.write_first.ensures c.write_four.ensures refl ∙
+    slot_keeping c.args.p.now (λ i. (c.type_inv.p i).fits) c.requires.0 c.args.s c.requires.1.0 c.requires.1.1

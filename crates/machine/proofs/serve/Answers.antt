@@ -1,0 +1,27 @@
+use borrow.Author.Tests.{eq-eqb, ne_eqb}
+use Rattle.machine.specs.OnBytes.{lent, forward_serves, backward_serves, rollback_serves, roll_serves}
+use Rattle.machine.proofs.serve.Goals as goal
+
+pub forward-requires : goal.forward-requires
+forward-requires c = (lent c.args.script.now c.args.net.now c.requires.0, c.requires.1)
+
+pub returns-then-r-eq-FORWARD : goal.returns-then-r-eq-FORWARD
+returns-then-r-eq-FORWARD c = forward_serves c.args.script.now c.args.net.now c.requires.0 (λ i. (c.type_inv.script i).fits) (λ i. (c.type_inv.net i).fits) c.args.r c.requires.1 _ _ (eq-eqb _ _ c.if-r-eq-FORWARD.true) c.forward.ensures
+
+pub backward-requires : goal.backward-requires
+backward-requires c = lent c.args.script.now c.args.net.now c.requires.0
+
+pub returns-then-r-eq-BACKWARD : goal.returns-then-r-eq-BACKWARD
+returns-then-r-eq-BACKWARD c = backward_serves c.args.script.now c.args.net.now c.requires.0 (λ i. (c.type_inv.script i).fits) (λ i. (c.type_inv.net i).fits) c.args.r c.requires.1 _ _ (eq-eqb _ _ c.if-r-eq-BACKWARD.true) c.backward.ensures
+
+pub rollback-requires : goal.rollback-requires
+rollback-requires c = lent c.args.script.now c.args.net.now c.requires.0
+
+pub returns-then-r-eq-ROLLBACK : goal.returns-then-r-eq-ROLLBACK
+returns-then-r-eq-ROLLBACK c = rollback_serves c.args.script.now c.args.net.now c.requires.0 (λ i. (c.type_inv.script i).fits) (λ i. (c.type_inv.net i).fits) c.args.r c.requires.1 _ _ (eq-eqb _ _ c.if-r-eq-ROLLBACK.true) c.rollback.ensures
+
+pub roll-requires : goal.roll-requires
+roll-requires c = lent c.args.script.now c.args.net.now c.requires.0
+
+pub returns : goal.returns
+returns c = roll_serves c.args.script.now c.args.net.now c.requires.0 (λ i. (c.type_inv.script i).fits) (λ i. (c.type_inv.net i).fits) c.args.r c.requires.1 _ _ (ne_eqb _ _ c.if-r-eq-FORWARD.false) (ne_eqb _ _ c.if-r-eq-BACKWARD.false) (ne_eqb _ _ c.if-r-eq-ROLLBACK.false) c.roll.ensures

@@ -1,0 +1,11 @@
+use borrow.Author.Tests.{lt-ltb, le-ltb}
+use Rattle.rewind.specs.Lines.{decimal, puts_more}
+use Rattle.rewind.proofs.lines.put_decimal.Goals as goal
+
+pub returns-then-n-lt10 : goal.returns-then-n-lt10
+unfolding decimal
+returns-then-n-lt10 c = rw (lt-ltb c.args.n 10 c.if-n-lt10.true) c.put.ensures
+
+pub returns : goal.returns
+unfolding decimal
+returns c = rw (le-ltb c.args.n 10 c.if-n-lt10.false) (puts_more c.put-next.ensures c.put-2.ensures)

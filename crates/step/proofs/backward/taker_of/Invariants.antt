@@ -1,0 +1,11 @@
+use Prim.Native.Nat.{◌-◌, ◌≤◌}
+use Rattle.names.specs.Names.{key_count}
+use Rattle.images.specs.Read.{script_of, net_of}
+use Rattle.step.specs.Back.{Untaken}
+use Rattle.step.proofs.backward.taker_of.Given as goal
+
+abbrev pub invariant-loop-next : goal.invariant-loop-next
+invariant-loop-next l = (l.next ≤ key_count) × Untaken (script_of l.script) (net_of l.net) l.t l.next
+
+abbrev pub decreases-loop-next : goal.decreases-loop-next
+decreases-loop-next l = key_count - l.next

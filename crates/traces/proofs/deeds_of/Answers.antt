@@ -1,0 +1,31 @@
+use mathlib.Core.Logic.{⊎_elim}
+use mathlib.Core.Path.{◌≡◌, ◌∙◌}
+use Prim.Native.Nat.{◌-◌}
+use native.Mathlib.Omega.{arith}
+use borrow.Author.Tests.{eq-eqb, ne_eqb}
+use Rattle.images.specs.Read.{net_of}
+use Rattle.traces.specs.Marks.{deeds_start, deeds_none, deeds_more, deeds_all}
+use Rattle.std.proofs.Common.{rules}
+use Rattle.traces.proofs.deeds_of.Goals as goal
+
+pub loop-i-init : goal.loop-i-init
+loop-i-init c =
+    let a = c.args in
+    (search rules, deeds_start a.script.now (net_of a.net.now))
+
+pub loop-i-preserved : goal.loop-i-preserved
+loop-i-preserved c =
+    let l = c.loop-i in
+    let a = c.args in
+    let is = c.slot_at-x.ensures in (
+      search rules,
+      ⊎_elim (λ w. w.3 ∙ deeds_more a.script.now (net_of a.net.now) l.i l.deeds l.invariant.1 _ is _ (eq-eqb _ _ w.0.taken) c.loop-i-test.true w.2.ensures)
+          (λ w. w.1 ∙ deeds_none a.script.now (net_of a.net.now) l.i l.deeds l.invariant.1 _ is (ne_eqb _ _ w.0.left))
+          c.if-x-eq-PAST.branch,
+    )
+
+pub returns : goal.returns
+returns c =
+    let l = c.loop-i in
+    let e : l.i ≡ 64 = omega arith in
+    rw e at l.invariant.1 ∙ deeds_all _ _
