@@ -7,7 +7,7 @@ use Rattle.std.proofs.Math.Path.{refl, ap, subst}
 use Rattle.std.proofs.Common.{sym, ◌∙◌, inl, inr, ⊎_elim}
 use Rattle.std.proofs.Math.Bool.{true, not}
 use native.Mathlib.Omega.{arith}
-use borrow.Author.Tests.{eqb-true, eqb-false, eq-eqb, ne_eqb, ltb-true, lt-ltb, leb-true, not-true, not_false}
+use borrow.Author.Tests.{eqb-true, eqb-false, eq-eqb, ne_eqb, ltb-true, lt-ltb, leb-true, not-true, not-false}
 use Rattle.laws.specs.Choice.{pick, cases, clash, and_left, and_right, and_both, sameb, sameb_eq, or_left, or_right, or_cases, fails, ◌⇒◌, told, tells}
 use Rattle.laws.specs.Checks.{all, all_of, all_at}
 use Rattle.order.specs.KeySets.{Set, ◌∈◌, ◌∉◌, any, any_of, any_some, any_not}
@@ -31,7 +31,7 @@ needed_below : (count p : ℕ) → below_or_none count p ≡ true → as_needed 
 needed_below count p r h = ltb-true p count (rw (not-true (eqb p none) h) at r)
 
 unneeded : (p : ℕ) → as_needed false p ≡ true → p ≡ none
-unneeded p h = eqb-true p none (not_false (eqb p none) (not-true (not (eqb p none)) h))
+unneeded p h = eqb-true p none (not-false (eqb p none) (not-true (not (eqb p none)) h))
 
 module _ (need : Bool) (p : ℕ) (h : as_needed need p ≡ true) where
   place_there : (count : ℕ) → below_or_none count p ≡ true → need ≡ true → p < count

@@ -10,7 +10,7 @@ use mathlib.Core.List.{List}
 use Rattle.std.proofs.Math.Bool.{true, false, or-false}
 use Rattle.std.proofs.Math.Dec.{eqb}
 use Rattle.std.proofs.lemmas.List.{get_or-replicate}
-use borrow.Author.Tests.{eqb-true, eqb-false, eq-eqb, ne_eqb, ltb-true, ltb-false, lt-ltb, le-ltb, le-leb, lt-leb, leb-true, not-true, not_false}
+use borrow.Author.Tests.{eqb-true, eqb-false, eq-eqb, ne_eqb, ltb-true, ltb-false, lt-ltb, le-ltb, le-leb, lt-leb, leb-true, not-true, not-false}
 use Rattle.laws.specs.Choice.{pick, cases, clash, and_left, and_right, and_both}
 use Rattle.laws.specs.Lists.{tab, get_d_tab}
 use Rattle.laws.specs.Checks.{all, all_of, all_at}

@@ -11,7 +11,7 @@ use Rattle.std.proofs.Math.Path.{ap, sym, subst}
 use Rattle.std.proofs.Common.{◌∙◌, inl, inr, ⊎_elim, true≢false, arith, eqb-true, eq-eqb, ne_eqb, ltb-true, ltb-false, lt-ltb, le-ltb}
 use Rattle.std.proofs.Math.Dec.{eqb}
 use Rattle.std.proofs.Math.ListN.{get_or-eq_default}
-use Rattle.std.proofs.lemmas.Bool.{not-true, not_false}
+use Rattle.std.proofs.lemmas.Bool.{not-true, not-false}
 use Rattle.laws.specs.Choice.{pick, cases, clash, fails, and_left, and_right, and_both}
 use Rattle.laws.specs.Checks.{first_not, first_at, first_none}
 use Rattle.order.specs.KeySets.{◌∈◌}
@@ -132,7 +132,7 @@ least_at p l = sym (ap (λ (b : Bool). pick b (Way.Behind (key (first_of p))) Wa
 pub least_found : (p : ℕ → Bool) (f : Key) → least_of p ≡ Way.Behind f → (f.0 < key_count) × (p f.0 ≡ true)
 least_found p f h =
     first_split key_count (λ j. not (p j))
-    (λ l q. found l (not_false (p (first_of p)) q))
+    (λ l q. found l (not-false (p (first_of p)) q))
     (λ e all. not_behind (least_none p (λ j l. not-true (p j) (all j l)) ∙ h))
   where
     found : first_of p < key_count → p (first_of p) ≡ true → (f.0 < key_count) × (p f.0 ≡ true)

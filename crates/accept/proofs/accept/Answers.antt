@@ -1,4 +1,4 @@
-use borrow.Author.Tests.{not-true, not_false}
+use borrow.Author.Tests.{not-true, not-false}
 use Rattle.accept.specs.Told.{verdict_disagrees, verdict_key_twice, verdict_locality_twice, verdict_tuple_twice, verdict_tuple, verdict_locality, verdict_root, verdict_cycle, verdict_accepted}
 use Rattle.accept.proofs.accept.Goals as goal
 
@@ -12,7 +12,7 @@ returns-then-not-made c =
     let found = c.before.before in
     let agreed = found.before.before.before.before in
     let given = agreed.before.before.before.before.args in
-    verdict_key_twice given.script.now given.net.now _ agreed.before.events-agree.ensures (not_false _ agreed.if1.false) _ _ _ _ found.before.before.before.deeds-of.ensures found.before.before.keys-made.ensures found.before.localities-made.ensures found.tuples-taken.ensures
+    verdict_key_twice given.script.now given.net.now _ agreed.before.events-agree.ensures (not-false _ agreed.if1.false) _ _ _ _ found.before.before.before.deeds-of.ensures found.before.before.keys-made.ensures found.before.localities-made.ensures found.tuples-taken.ensures
     (not-true _ c.if-not-made.true)
 
 pub returns-then-not-places : goal.returns-then-not-places
@@ -20,16 +20,16 @@ returns-then-not-places c =
     let found = c.before.before.before.before in
     let agreed = found.before.before.before.before in
     let given = agreed.before.before.before.before.args in
-    verdict_locality_twice given.script.now given.net.now _ agreed.before.events-agree.ensures (not_false _ agreed.if1.false) _ _ _ _ found.before.before.before.deeds-of.ensures found.before.before.keys-made.ensures found.before.localities-made.ensures found.tuples-taken.ensures
-    (not_false _ c.if-not-made.false) (not-true _ c.if-not-places.true)
+    verdict_locality_twice given.script.now given.net.now _ agreed.before.events-agree.ensures (not-false _ agreed.if1.false) _ _ _ _ found.before.before.before.deeds-of.ensures found.before.before.keys-made.ensures found.before.localities-made.ensures found.tuples-taken.ensures
+    (not-false _ c.if-not-made.false) (not-true _ c.if-not-places.true)
 
 pub returns-then-not-taken : goal.returns-then-not-taken
 returns-then-not-taken c =
     let found = c.before.before.before.before.before.before in
     let agreed = found.before.before.before.before in
     let given = agreed.before.before.before.before.args in
-    verdict_tuple_twice given.script.now given.net.now _ agreed.before.events-agree.ensures (not_false _ agreed.if1.false) _ _ _ _ found.before.before.before.deeds-of.ensures found.before.before.keys-made.ensures found.before.localities-made.ensures found.tuples-taken.ensures
-    (not_false _ c.if-not-made.false) (not_false _ c.if-not-places.false) (not-true _ c.if-not-taken.true)
+    verdict_tuple_twice given.script.now given.net.now _ agreed.before.events-agree.ensures (not-false _ agreed.if1.false) _ _ _ _ found.before.before.before.deeds-of.ensures found.before.before.keys-made.ensures found.before.localities-made.ensures found.tuples-taken.ensures
+    (not-false _ c.if-not-made.false) (not-false _ c.if-not-places.false) (not-true _ c.if-not-taken.true)
 
 pub returns-then-not-tuples_right : goal.returns-then-not-tuples_right
 returns-then-not-tuples_right c =
@@ -37,8 +37,8 @@ returns-then-not-tuples_right c =
     let found = once.before.before.before.before.before.before in
     let agreed = found.before.before.before.before in
     let given = agreed.before.before.before.before.args in
-    verdict_tuple given.script.now given.net.now _ agreed.before.events-agree.ensures (not_false _ agreed.if1.false) _ _ _ _ found.before.before.before.deeds-of.ensures found.before.before.keys-made.ensures found.before.localities-made.ensures found.tuples-taken.ensures
-    (not_false _ once.before.before.before.before.if2.false) (not_false _ once.before.before.if3.false) (not_false _ once.if4.false) c.tuples_right.ensures (not-true _ c.if-not-tuples_right.true)
+    verdict_tuple given.script.now given.net.now _ agreed.before.events-agree.ensures (not-false _ agreed.if1.false) _ _ _ _ found.before.before.before.deeds-of.ensures found.before.before.keys-made.ensures found.before.localities-made.ensures found.tuples-taken.ensures
+    (not-false _ once.before.before.before.before.if2.false) (not-false _ once.before.before.if3.false) (not-false _ once.if4.false) c.tuples_right.ensures (not-true _ c.if-not-tuples_right.true)
 
 pub returns-then-not-localities_right : goal.returns-then-not-localities_right
 returns-then-not-localities_right c =
@@ -47,8 +47,8 @@ returns-then-not-localities_right c =
     let found = once.before.before.before.before.before.before in
     let agreed = found.before.before.before.before in
     let given = agreed.before.before.before.before.args in
-    verdict_locality given.script.now given.net.now _ agreed.before.events-agree.ensures (not_false _ agreed.if1.false) _ _ _ _ found.before.before.before.deeds-of.ensures found.before.before.keys-made.ensures found.before.localities-made.ensures found.tuples-taken.ensures
-    (not_false _ once.before.before.before.before.if2.false) (not_false _ once.before.before.if3.false) (not_false _ once.if4.false) right.before.tuples-right.ensures (not_false _ right.if5.false) c.present_in-present.ensures c.localities_right.ensures (not-true _ c.if-not-localities_right.true)
+    verdict_locality given.script.now given.net.now _ agreed.before.events-agree.ensures (not-false _ agreed.if1.false) _ _ _ _ found.before.before.before.deeds-of.ensures found.before.before.keys-made.ensures found.before.localities-made.ensures found.tuples-taken.ensures
+    (not-false _ once.before.before.before.before.if2.false) (not-false _ once.before.before.if3.false) (not-false _ once.if4.false) right.before.tuples-right.ensures (not-false _ right.if5.false) c.present_in-present.ensures c.localities_right.ensures (not-true _ c.if-not-localities_right.true)
 
 pub roots_right-requires : goal.roots_right-requires
 roots_right-requires c = c.requires.1
@@ -61,8 +61,8 @@ returns-then-not-roots_right c =
     let found = once.before.before.before.before.before.before in
     let agreed = found.before.before.before.before in
     let given = agreed.before.before.before.before.args in
-    verdict_root given.script.now given.net.now _ agreed.before.events-agree.ensures (not_false _ agreed.if1.false) _ _ _ _ found.before.before.before.deeds-of.ensures found.before.before.keys-made.ensures found.before.localities-made.ensures found.tuples-taken.ensures
-    (not_false _ once.before.before.before.before.if2.false) (not_false _ once.before.before.if3.false) (not_false _ once.if4.false) right.before.tuples-right.ensures (not_false _ right.if5.false) placed.before.before.before.present-in.ensures placed.before.localities-right.ensures (not_false _ placed.if6.false) c.roots_right.ensures (not-true _ c.if-not-roots_right.true)
+    verdict_root given.script.now given.net.now _ agreed.before.events-agree.ensures (not-false _ agreed.if1.false) _ _ _ _ found.before.before.before.deeds-of.ensures found.before.before.keys-made.ensures found.before.localities-made.ensures found.tuples-taken.ensures
+    (not-false _ once.before.before.before.before.if2.false) (not-false _ once.before.before.if3.false) (not-false _ once.if4.false) right.before.tuples-right.ensures (not-false _ right.if5.false) placed.before.before.before.present-in.ensures placed.before.localities-right.ensures (not-false _ placed.if6.false) c.roots_right.ensures (not-true _ c.if-not-roots_right.true)
 
 pub events_of-events-requires : goal.events_of-events-requires
 events_of-events-requires c = c.requires.1
@@ -79,8 +79,8 @@ returns-then-not-has_no_cycle c =
     let found = once.before.before.before.before.before.before in
     let agreed = found.before.before.before.before in
     let given = agreed.before.before.before.before.args in
-    verdict_cycle given.script.now given.net.now _ agreed.before.events-agree.ensures (not_false _ agreed.if1.false) _ _ _ _ found.before.before.before.deeds-of.ensures found.before.before.keys-made.ensures found.before.localities-made.ensures found.tuples-taken.ensures
-    (not_false _ once.before.before.before.before.if2.false) (not_false _ once.before.before.if3.false) (not_false _ once.if4.false) right.before.tuples-right.ensures (not_false _ right.if5.false) placed.before.before.before.present-in.ensures placed.before.localities-right.ensures (not_false _ placed.if6.false) rooted.before.roots-right.ensures (not_false _ rooted.if7.false)
+    verdict_cycle given.script.now given.net.now _ agreed.before.events-agree.ensures (not-false _ agreed.if1.false) _ _ _ _ found.before.before.before.deeds-of.ensures found.before.before.keys-made.ensures found.before.localities-made.ensures found.tuples-taken.ensures
+    (not-false _ once.before.before.before.before.if2.false) (not-false _ once.before.before.if3.false) (not-false _ once.if4.false) right.before.tuples-right.ensures (not-false _ right.if5.false) placed.before.before.before.present-in.ensures placed.before.localities-right.ensures (not-false _ placed.if6.false) rooted.before.roots-right.ensures (not-false _ rooted.if7.false)
     _ _ c.events_of-events.ensures c.rows_of-rows.ensures c.has_no_cycle.ensures (not-true _ c.if-not-has_no_cycle.true)
 
 pub returns : goal.returns
@@ -92,6 +92,6 @@ returns c =
     let found = once.before.before.before.before.before.before in
     let agreed = found.before.before.before.before in
     let given = agreed.before.before.before.before.args in
-    verdict_accepted given.script.now given.net.now _ agreed.before.events-agree.ensures (not_false _ agreed.if1.false) _ _ _ _ found.before.before.before.deeds-of.ensures found.before.before.keys-made.ensures found.before.localities-made.ensures found.tuples-taken.ensures
-    (not_false _ once.before.before.before.before.if2.false) (not_false _ once.before.before.if3.false) (not_false _ once.if4.false) right.before.tuples-right.ensures (not_false _ right.if5.false) placed.before.before.before.present-in.ensures placed.before.localities-right.ensures (not_false _ placed.if6.false) rooted.before.roots-right.ensures (not_false _ rooted.if7.false)
-    _ _ c.events_of-events.ensures c.rows_of-rows.ensures c.has_no_cycle.ensures (not_false _ c.if-not-has_no_cycle.false)
+    verdict_accepted given.script.now given.net.now _ agreed.before.events-agree.ensures (not-false _ agreed.if1.false) _ _ _ _ found.before.before.before.deeds-of.ensures found.before.before.keys-made.ensures found.before.localities-made.ensures found.tuples-taken.ensures
+    (not-false _ once.before.before.before.before.if2.false) (not-false _ once.before.before.if3.false) (not-false _ once.if4.false) right.before.tuples-right.ensures (not-false _ right.if5.false) placed.before.before.before.present-in.ensures placed.before.localities-right.ensures (not-false _ placed.if6.false) rooted.before.roots-right.ensures (not-false _ rooted.if7.false)
+    _ _ c.events_of-events.ensures c.rows_of-rows.ensures c.has_no_cycle.ensures (not-false _ c.if-not-has_no_cycle.false)

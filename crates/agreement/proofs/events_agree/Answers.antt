@@ -3,7 +3,7 @@ use mathlib.Core.Bool.{true}
 use Prim.Native.Nat.{◌-◌}
 use native.Mathlib.Omega.{arith}
 use borrow.Author.Count.{below_none, below_more}
-use borrow.Author.Tests.{not-true, not_false}
+use borrow.Author.Tests.{not-true, not-false}
 use Rattle.laws.specs.Checks.{all_of, all_not}
 use Rattle.names.specs.Names.{key_count}
 use Rattle.agreement.specs.Looked.{no_event, event_told}
@@ -29,7 +29,7 @@ loop-k-preserved c =
     let event = c.before.before in (
       search rules,
       below_more _ _ turn.loop.invariant.1
-          (event_told _ _ _ event.before.before.slot_at.ensures event.if1.false c.event_agrees.ensures (not_false _ c.if-not-event_agrees.false)),
+          (event_told _ _ _ event.before.before.slot_at.ensures event.if1.false c.event_agrees.ensures (not-false _ c.if-not-event_agrees.false)),
     )
 
 pub returns : goal.returns

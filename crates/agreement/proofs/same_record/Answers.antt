@@ -1,5 +1,5 @@
 use mathlib.Core.Path.{◌∙◌, sym}
-use borrow.Author.Tests.{eq-eqb, ne_eqb, not-true, not_false}
+use borrow.Author.Tests.{eq-eqb, ne_eqb, not-true, not-false}
 use Rattle.agreement.specs.Agreement.{same_record}
 use Rattle.agreement.proofs.same_record.Goals as goal
 
@@ -21,4 +21,4 @@ returns-then-not-same_data c = rw (eq-eqb _ _ c.if-x-y.false, eq-eqb _ _ c.if-x-
 
 pub returns : goal.returns
 unfolding same_record
-returns c = rw (eq-eqb _ _ c.if-x-y.false, eq-eqb _ _ c.if-x-y-2.false, eq-eqb _ _ c.if-x-y-3.false, sym c.same_data.ensures ∙ not_false _ c.if-not-same_data.false, c.same_refs.ensures)
+returns c = rw (eq-eqb _ _ c.if-x-y.false, eq-eqb _ _ c.if-x-y-2.false, eq-eqb _ _ c.if-x-y-3.false, sym c.same_data.ensures ∙ not-false _ c.if-not-same_data.false, c.same_refs.ensures)

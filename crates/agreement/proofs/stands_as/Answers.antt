@@ -1,5 +1,5 @@
 use mathlib.Core.Path.{◌∙◌, sym}
-use borrow.Author.Tests.{eq-eqb, ne_eqb, not-true, not_false}
+use borrow.Author.Tests.{eq-eqb, ne_eqb, not-true, not-false}
 use Rattle.agreement.specs.Agreement.{stands_as}
 use Rattle.agreement.proofs.stands_as.Goals as goal
 
@@ -9,8 +9,8 @@ returns-then-not-same_record c = rw (sym c.same_record.ensures ∙ not-true _ c.
 
 pub returns-then-x-made : goal.returns-then-x-made
 unfolding stands_as
-returns-then-x-made c = rw (sym c.same_record.ensures ∙ not_false _ c.if-not-same_record.false, eq-eqb _ _ c.if-x-made.true, c.made_are.ensures)
+returns-then-x-made c = rw (sym c.same_record.ensures ∙ not-false _ c.if-not-same_record.false, eq-eqb _ _ c.if-x-made.true, c.made_are.ensures)
 
 pub returns : goal.returns
 unfolding stands_as
-returns c = rw (sym c.same_record.ensures ∙ not_false _ c.if-not-same_record.false, ne_eqb _ _ c.if-x-made.false)
+returns c = rw (sym c.same_record.ensures ∙ not-false _ c.if-not-same_record.false, ne_eqb _ _ c.if-x-made.false)

@@ -1,5 +1,5 @@
 use mathlib.Core.Path.{◌∙◌, sym}
-use borrow.Author.Tests.{not-true, not_false}
+use borrow.Author.Tests.{not-true, not-false}
 use Rattle.images.specs.Read.{net_of}
 use Rattle.agreement.specs.Looked.{unready, rule_fails, first_fails, second_tells}
 use Rattle.agreement.proofs.step_agrees.Goals as goal
@@ -11,7 +11,7 @@ pub returns-then-not-rule_applies : goal.returns-then-not-rule_applies
 returns-then-not-rule_applies c = sym (rule_fails _ c.args.k c.args.x (net_of c.args.net.now) (sym c.evaluable-ready.ensures ∙ c.in-Ready.is) c.rule_applies.ensures (not-true _ c.if-not-rule_applies.true))
 
 pub returns-then-not-first_stands : goal.returns-then-not-first_stands
-returns-then-not-first_stands c = sym (first_fails _ c.args.k c.args.x (net_of c.args.net.now) (sym c.evaluable-ready.ensures ∙ c.in-Ready.is) c.rule_applies.ensures (not_false _ c.if-not-rule_applies.false) c.action_of-a.ensures c.first_stands.ensures (not-true _ c.if-not-first_stands.true))
+returns-then-not-first_stands c = sym (first_fails _ c.args.k c.args.x (net_of c.args.net.now) (sym c.evaluable-ready.ensures ∙ c.in-Ready.is) c.rule_applies.ensures (not-false _ c.if-not-rule_applies.false) c.action_of-a.ensures c.first_stands.ensures (not-true _ c.if-not-first_stands.true))
 
 pub returns : goal.returns
-returns c = second_tells _ c.args.k c.args.x (net_of c.args.net.now) (sym c.evaluable-ready.ensures ∙ c.in-Ready.is) c.rule_applies.ensures (not_false _ c.if-not-rule_applies.false) c.action_of-a.ensures c.first_stands.ensures (not_false _ c.if-not-first_stands.false) c.second_stands.ensures
+returns c = second_tells _ c.args.k c.args.x (net_of c.args.net.now) (sym c.evaluable-ready.ensures ∙ c.in-Ready.is) c.rule_applies.ensures (not-false _ c.if-not-rule_applies.false) c.action_of-a.ensures c.first_stands.ensures (not-false _ c.if-not-first_stands.false) c.second_stands.ensures

@@ -1,9 +1,9 @@
 use mathlib.Core.Path.{◌∙◌, sym}
-use borrow.Author.Tests.{ltb-true, not_false}
+use borrow.Author.Tests.{ltb-true, not-false}
 use Rattle.cycles.proofs.look_at.Goals as goal
 
 pub has-requires : goal.has-requires
-has-requires c = ltb-true _ _ (sym c.is_key.ensures ∙ not_false _ c.if-not-is_key.false)
+has-requires c = ltb-true _ _ (sym c.is_key.ensures ∙ not-false _ c.if-not-is_key.false)
 
 pub returns-then-has : goal.returns-then-has
-returns-then-has c = (ltb-true _ _ (sym c.is_key.ensures ∙ not_false _ c.if-not-is_key.false), sym c.has.ensures ∙ c.if-has.true)
+returns-then-has c = (ltb-true _ _ (sym c.is_key.ensures ∙ not-false _ c.if-not-is_key.false), sym c.has.ensures ∙ c.if-has.true)

@@ -2,7 +2,7 @@ use mathlib.Core.Path.{sym, ◌∙◌}
 use mathlib.Core.Bool.{false}
 use Prim.Native.Nat.{◌-◌}
 use native.Mathlib.Omega.{arith}
-use borrow.Author.Tests.{not-true, not_false}
+use borrow.Author.Tests.{not-true, not-false}
 use borrow.Author.Count.{below_more}
 use Rattle.finder.specs.Helpers.{absent_first, absent_not, absent_at, absent_end}
 use Rattle.std.proofs.Common.{rules}
@@ -19,7 +19,7 @@ returns-then-not-has c =
 pub loop-l-preserved : goal.loop-l-preserved
 loop-l-preserved c =
     let w = c.loop-l in
-    (search rules, search rules, below_more _ w.l w.invariant.2 (absent_not _ w.l (sym c.has.ensures ∙ not_false _ c.if-not-has.false)))
+    (search rules, search rules, below_more _ w.l w.invariant.2 (absent_not _ w.l (sym c.has.ensures ∙ not-false _ c.if-not-has.false)))
 
 pub returns : goal.returns
 returns c =

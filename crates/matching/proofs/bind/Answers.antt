@@ -5,6 +5,7 @@ use native.Mathlib.Omega.{arith}
 use lib.ListN.{get_or, set}
 use borrow.Author.Tests.{le-leb, lt-leb, ltb-true}
 use Rattle.laws.specs.Choice.{and_both}
+use Rattle.names.specs.Reads.{variable_read, variable_bad}
 use Rattle.names.specs.declared.Variable.{Variable}
 use Rattle.images.specs.Script.{field0}
 use Rattle.images.specs.Net.{datum0}

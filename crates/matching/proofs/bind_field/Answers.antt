@@ -1,6 +1,7 @@
 use Prim.Native.Nat.{◌<◌}
 use mathlib.Core.Path.{ap, sym, ◌∙◌, subst}
 use borrow.Author.Tests.{le-leb, lt-leb, ltb-true}
+use Rattle.names.specs.Reads.{variable_read, variable_bad}
 use Rattle.names.specs.declared.Variable.{Variable}
 use Rattle.images.specs.Changed.{variable_put}
 use Rattle.matching.specs.Bound.{bind_put}

@@ -4,7 +4,7 @@ use Prim.Native.Nat.{◌-◌}
 use native.Mathlib.Omega.{arith}
 use borrow.Author.Count.{below_none, below_more}
 use Rattle.laws.specs.Checks.{all_of, all_not}
-use borrow.Author.Tests.{not-true, not_false}
+use borrow.Author.Tests.{not-true, not-false}
 use Rattle.matching.specs.Evaluate.{is_ready, fields_ready}
 use Rattle.std.proofs.Common.{rules}
 use Rattle.matching.proofs.fields_ready.Goals as goal
@@ -18,7 +18,7 @@ returns-then-not-is_ready c =
     sym (all_not 4 _ c.loop-j.j c.loop-j-test.true (sym c.is_ready.ensures ∙ not-true _ c.if-not-is_ready.true))
 
 pub loop-j-preserved : goal.loop-j-preserved
-loop-j-preserved c = (search rules, below_more _ _ c.loop-j.invariant.1 (sym c.is_ready.ensures ∙ not_false _ c.if-not-is_ready.false))
+loop-j-preserved c = (search rules, below_more _ _ c.loop-j.invariant.1 (sym c.is_ready.ensures ∙ not-false _ c.if-not-is_ready.false))
 
 pub returns : goal.returns
 unfolding fields_ready

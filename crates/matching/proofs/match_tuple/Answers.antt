@@ -3,7 +3,7 @@ use mathlib.Core.Bool.{true}
 use Prim.Native.Nat.{◌-◌}
 use native.Mathlib.Omega.{arith}
 use borrow.Author.Count.{below_none, below_more}
-use borrow.Author.Tests.{eq-eqb, ne_eqb, not-true, not_false}
+use borrow.Author.Tests.{eq-eqb, ne_eqb, not-true, not-false}
 use Rattle.laws.specs.Checks.{all_of, all_not}
 use Rattle.matching.specs.Match.{place_meets, meets, match_of, a_match, no_match}
 use Rattle.std.proofs.Common.{rules}
@@ -29,7 +29,7 @@ returns-then-not-place_meets c =
     (λ i. match_of c.args.vars (c.action_of-a.ensures i) (c.slot_of-t.ensures i))
 
 pub loop-j-preserved : goal.loop-j-preserved
-loop-j-preserved c = (search rules, below_more _ _ c.loop-j.invariant.1 (sym c.place_meets.ensures ∙ not_false _ c.if-not-place_meets.false))
+loop-j-preserved c = (search rules, below_more _ _ c.loop-j.invariant.1 (sym c.place_meets.ensures ∙ not-false _ c.if-not-place_meets.false))
 
 pub returns : goal.returns
 unfolding meets

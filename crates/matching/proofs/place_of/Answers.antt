@@ -1,5 +1,6 @@
 use mathlib.Core.Path.{◌∙◌, sym, ap}
 use borrow.Author.Tests.{eq-eqb, ne_eqb}
+use Rattle.names.specs.Reads.{locality_read, locality_bad}
 use Rattle.matching.specs.declared.Target.TheVariants as Target
 use Rattle.matching.proofs.place_of.Goals as goal
 

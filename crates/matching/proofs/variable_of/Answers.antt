@@ -2,6 +2,7 @@ use Prim.Native.Nat.{◌<◌}
 use mathlib.Core.Path.{ap, sym, ◌∙◌, subst}
 use lib.ListN.{get_or}
 use borrow.Author.Tests.{ltb-true}
+use Rattle.names.specs.Reads.{variable_read, variable_bad}
 use Rattle.names.specs.declared.Variable.{Variable}
 use Rattle.images.specs.Net.{datum0}
 use Rattle.matching.proofs.variable_of.Goals as goal

@@ -1,5 +1,5 @@
 use mathlib.Core.Path.{◌∙◌, sym}
-use borrow.Author.Tests.{not-true, not_false}
+use borrow.Author.Tests.{not-true, not-false}
 use Rattle.products.specs.Acting.{acting_at}
 use Rattle.products.proofs.acting_at.Goals as goal
 
@@ -9,4 +9,4 @@ returns-then-not-has_target c = rw (sym c.has_target.ensures ∙ not-true _ c.if
 
 pub returns : goal.returns
 unfolding acting_at
-returns c = rw (sym c.has_target.ensures ∙ not_false _ c.if-not-has_target.false, c.find_target.ensures)
+returns c = rw (sym c.has_target.ensures ∙ not-false _ c.if-not-has_target.false, c.find_target.ensures)

@@ -1,5 +1,5 @@
 use mathlib.Core.Path.{◌∙◌, sym}
-use borrow.Author.Tests.{not-true, not_false}
+use borrow.Author.Tests.{not-true, not-false}
 use Rattle.products.specs.Acting.{readiness, ready_missing, ready_not, ready_at}
 use Rattle.products.proofs.evaluable.Goals as goal
 
@@ -15,5 +15,5 @@ returns-then-not-fields_found c =
 
 pub returns : goal.returns
 returns c =
-    ready_at c.action_of-a.result _ _ _ (sym c.in-At.is ∙ c.acting_at-target.ensures) (sym c.fields_found.ensures ∙ not_false _ c.if-not-fields_found.false) ∙
+    ready_at c.action_of-a.result _ _ _ (sym c.in-At.is ∙ c.acting_at-target.ensures) (sym c.fields_found.ensures ∙ not-false _ c.if-not-fields_found.false) ∙
     (λ i. readiness (c.action_of-a.ensures i) c.args.own_val c.args.vars)

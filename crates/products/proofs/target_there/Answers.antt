@@ -1,5 +1,5 @@
 use mathlib.Core.Path.{◌∙◌, sym}
-use borrow.Author.Tests.{ltb-true, not-true, not_false}
+use borrow.Author.Tests.{ltb-true, not-true, not-false}
 use Rattle.products.specs.Products.{target_there}
 use Rattle.products.proofs.target_there.Goals as goal
 
@@ -9,11 +9,11 @@ returns-then-not-has_target c = rw (sym c.has_target.ensures ∙ not-true _ c.if
 
 pub returns-then-not-is_locality : goal.returns-then-not-is_locality
 unfolding target_there
-returns-then-not-is_locality c = rw (sym c.has_target.ensures ∙ not_false _ c.if-not-has_target.false, sym c.is_locality.ensures ∙ not-true _ c.if-not-is_locality.true)
+returns-then-not-is_locality c = rw (sym c.has_target.ensures ∙ not-false _ c.if-not-has_target.false, sym c.is_locality.ensures ∙ not-true _ c.if-not-is_locality.true)
 
 pub has-requires : goal.has-requires
-has-requires c = ltb-true _ 32 (sym c.is_locality.ensures ∙ not_false _ c.if-not-is_locality.false)
+has-requires c = ltb-true _ 32 (sym c.is_locality.ensures ∙ not-false _ c.if-not-is_locality.false)
 
 pub returns : goal.returns
 unfolding target_there
-returns c = rw (sym c.has_target.ensures ∙ not_false _ c.if-not-has_target.false, sym c.is_locality.ensures ∙ not_false _ c.if-not-is_locality.false, c.has.ensures)
+returns c = rw (sym c.has_target.ensures ∙ not-false _ c.if-not-has_target.false, sym c.is_locality.ensures ∙ not-false _ c.if-not-is_locality.false, c.has.ensures)

@@ -2,6 +2,7 @@ use Prim.Native.Nat.{◌<◌}
 use mathlib.Core.Path.{ap, sym, ◌∙◌, subst}
 use lib.ListN.{set}
 use borrow.Author.Tests.{ltb-true}
+use Rattle.names.specs.Reads.{variable_read, variable_bad}
 use Rattle.names.specs.declared.Variable.{Variable}
 use Rattle.products.specs.Products.{made_datum}
 use Rattle.products.proofs.with_place.Goals as goal

@@ -1,5 +1,6 @@
 use mathlib.Core.Path.{sym, ◌∙◌}
 use borrow.Author.Tests.{eq-eqb, ne_eqb, lt-leb, le-leb}
+use Rattle.names.specs.Reads.{key_read, key_bad, key_or_none_read, key_or_none_bad, locality_or_none_bad}
 use Rattle.requests.specs.Answers.{in_range}
 use Rattle.requests.specs.Requests.{read_request, request_read}
 use Rattle.requests.proofs.read_request.Goals as goal

@@ -9,13 +9,13 @@ use Rattle.std.proofs.Common.{rules}
 use Rattle.rewind.proofs.answer_chunk.Goals as goal
 
 pub loop-k-init : goal.loop-k-init
-loop-k-init c = (search rules, search rules, refl, good_held c.args.script.now c.args.net.now c.requires.0 (λ i. (c.type_inv.script i).fits) (λ i. (c.type_inv.net i).fits), run_first c.args.script.now c.args.net.now c.args.requests.now c.args.out.now)
+loop-k-init c = (search rules, search rules, refl, good_held c.args.script.now c.args.net.now c.requires.good_images (λ i. (c.type_inv.script i).fits) (λ i. (c.type_inv.net i).fits), run_first c.args.script.now c.args.net.now c.args.requests.now c.args.out.now)
 
 pub call_on-t-requires : goal.call_on-t-requires
 call_on-t-requires c = held_images c.args.script.now c.loop-k.net c.loop-k.invariant.3
 
 pub put_line-end-requires : goal.put_line-end-requires
-put_line-end-requires c = (reply_few c.args.script.now c.loop-k.net _ c.loop-k.invariant.3 _ c.call_on-t.ensures.0, omega (arith, c.requires.1, c.loop-k.invariant.1, c.loop-k.invariant.2, c.loop-k-test.true))
+put_line-end-requires c = (reply_few c.args.script.now c.loop-k.net _ c.loop-k.invariant.3 _ c.call_on-t.ensures.0, omega (arith, c.requires.request_size_in_bounds, c.loop-k.invariant.1, c.loop-k.invariant.2, c.loop-k-test.true))
 
 pub overflow_add-k : goal.overflow_add-k
 overflow_add-k c = omega (arith, c.loop-k-test.true)
@@ -43,5 +43,5 @@ pub returns : goal.returns
 returns c =
     let e : c.loop-k.k ≡ length c.args.requests.now / 6 = omega (arith, c.loop-k.invariant.0, c.loop-k-test.false) in (
       c.loop-k.invariant.4 ∙ ap (answered c.args.script.now c.args.net.now c.args.requests.now) e,
-      (omega (arith, c.requires.1, c.loop-k.invariant.0, c.loop-k.invariant.1, c.loop-k.invariant.2), held_images c.args.script.now c.loop-k.net c.loop-k.invariant.3),
+      (omega (arith, c.requires.request_size_in_bounds, c.loop-k.invariant.0, c.loop-k.invariant.1, c.loop-k.invariant.2), held_images c.args.script.now c.loop-k.net c.loop-k.invariant.3),
     )

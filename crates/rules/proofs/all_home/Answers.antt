@@ -4,7 +4,7 @@ use Prim.Native.Nat.{◌-◌}
 use native.Mathlib.Omega.{arith}
 use borrow.Author.Count.{below_none, below_more}
 use Rattle.laws.specs.Checks.{all_of, all_not}
-use borrow.Author.Tests.{not-true, not_false}
+use borrow.Author.Tests.{not-true, not-false}
 use Rattle.rules.specs.Roots.{is_home}
 use Rattle.std.proofs.Common.{rules}
 use Rattle.rules.proofs.all_home.Goals as goal
@@ -16,7 +16,7 @@ pub returns-then-not-is_home : goal.returns-then-not-is_home
 returns-then-not-is_home c = sym (all_not 8 _ c.loop-j.j c.loop-j-test.true (sym c.is_home.ensures ∙ not-true _ c.if-not-is_home.true))
 
 pub loop-j-preserved : goal.loop-j-preserved
-loop-j-preserved c = (search rules, below_more _ _ c.loop-j.invariant.1 (sym c.is_home.ensures ∙ not_false _ c.if-not-is_home.false))
+loop-j-preserved c = (search rules, below_more _ _ c.loop-j.invariant.1 (sym c.is_home.ensures ∙ not-false _ c.if-not-is_home.false))
 
 pub returns : goal.returns
 returns c =

@@ -1,5 +1,5 @@
 use mathlib.Core.Path.{◌∙◌, sym}
-use borrow.Author.Tests.{lt-ltb, le-ltb, not-true, not_false}
+use borrow.Author.Tests.{lt-ltb, le-ltb, not-true, not-false}
 use Rattle.rules.specs.Roots.{rooted}
 use Rattle.rules.proofs.is_rooted.Goals as goal
 
@@ -13,4 +13,4 @@ returns-then-not-all_home c = rw (lt-ltb _ _ c.if-x-ge-FIRST_MADE.false, sym c.a
 
 pub returns : goal.returns
 unfolding rooted
-returns c = rw (lt-ltb _ _ c.if-x-ge-FIRST_MADE.false, sym c.all_home.ensures ∙ not_false _ c.if-not-all_home.false, c.refs_are.ensures)
+returns c = rw (lt-ltb _ _ c.if-x-ge-FIRST_MADE.false, sym c.all_home.ensures ∙ not-false _ c.if-not-all_home.false, c.refs_are.ensures)

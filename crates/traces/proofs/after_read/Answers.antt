@@ -1,5 +1,5 @@
 use mathlib.Core.Path.{◌∙◌, sym}
-use borrow.Author.Tests.{eq-eqb, ne_eqb, not-true, not_false}
+use borrow.Author.Tests.{eq-eqb, ne_eqb, not-true, not-false}
 use Rattle.traces.specs.Traces.{after_read_by}
 use Rattle.traces.proofs.after_read.Goals as goal
 
@@ -13,4 +13,4 @@ returns-then-not-is_key c = rw (eq-eqb _ _ c.if-deed-ne-READ.false, sym c.is_key
 
 pub returns : goal.returns
 unfolding after_read_by
-returns c = rw (eq-eqb _ _ c.if-deed-ne-READ.false, sym c.is_key.ensures ∙ not_false _ c.if-not-is_key.false)
+returns c = rw (eq-eqb _ _ c.if-deed-ne-READ.false, sym c.is_key.ensures ∙ not-false _ c.if-not-is_key.false)

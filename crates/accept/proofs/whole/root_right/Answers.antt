@@ -1,5 +1,5 @@
 use mathlib.Core.Path.{◌∙◌, sym}
-use borrow.Author.Tests.{ltb-true, not-true, not_false}
+use borrow.Author.Tests.{ltb-true, not-true, not-false}
 use Rattle.accept.specs.Whole.{root_right}
 use Rattle.accept.proofs.whole.root_right.Goals as goal
 
@@ -17,11 +17,11 @@ returns-then-not-is_rooted c = rw (sym c.is_free.ensures ∙ c.if-is_free.false,
 
 pub returns-then-not-is_locality : goal.returns-then-not-is_locality
 unfolding root_right
-returns-then-not-is_locality c = rw (sym c.is_free.ensures ∙ c.if-is_free.false, c.if-made.false, sym c.is_rooted.ensures ∙ not_false _ c.if-not-is_rooted.false, sym c.is_locality.ensures ∙ not-true _ c.if-not-is_locality.true)
+returns-then-not-is_locality c = rw (sym c.is_free.ensures ∙ c.if-is_free.false, c.if-made.false, sym c.is_rooted.ensures ∙ not-false _ c.if-not-is_rooted.false, sym c.is_locality.ensures ∙ not-true _ c.if-not-is_locality.true)
 
 pub has-requires : goal.has-requires
-has-requires c = ltb-true _ 32 (sym c.is_locality.ensures ∙ not_false _ c.if-not-is_locality.false)
+has-requires c = ltb-true _ 32 (sym c.is_locality.ensures ∙ not-false _ c.if-not-is_locality.false)
 
 pub returns : goal.returns
 unfolding root_right
-returns c = rw (sym c.is_free.ensures ∙ c.if-is_free.false, c.if-made.false, sym c.is_rooted.ensures ∙ not_false _ c.if-not-is_rooted.false, sym c.is_locality.ensures ∙ not_false _ c.if-not-is_locality.false, c.has.ensures)
+returns c = rw (sym c.is_free.ensures ∙ c.if-is_free.false, c.if-made.false, sym c.is_rooted.ensures ∙ not-false _ c.if-not-is_rooted.false, sym c.is_locality.ensures ∙ not-false _ c.if-not-is_locality.false, c.has.ensures)

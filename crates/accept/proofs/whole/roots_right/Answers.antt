@@ -3,7 +3,7 @@ use mathlib.Core.Bool.{true}
 use Prim.Native.Nat.{◌-◌}
 use native.Mathlib.Omega.{arith}
 use borrow.Author.Count.{below_none, below_more}
-use borrow.Author.Tests.{not-true, not_false}
+use borrow.Author.Tests.{not-true, not-false}
 use Rattle.laws.specs.Checks.{all_of, all_not}
 use Rattle.images.specs.Read.{net_of}
 use Rattle.accept.specs.Whole.{root_right, roots_right}
@@ -25,7 +25,7 @@ pub loop-k-preserved : goal.loop-k-preserved
 loop-k-preserved c =
     let turn = c.before.before.before.before.before in
     let a = turn.before.before.before.args in
-    (search rules, below_more _ _ turn.loop.invariant.1 (root_at (net_of a.net.now) a.made turn.loop.k turn.before.present-in.ensures c.slot_at-x.ensures c.has-by_event.ensures c.root_right.ensures ∙ not_false _ c.if-not-root_right.false))
+    (search rules, below_more _ _ turn.loop.invariant.1 (root_at (net_of a.net.now) a.made turn.loop.k turn.before.present-in.ensures c.slot_at-x.ensures c.has-by_event.ensures c.root_right.ensures ∙ not-false _ c.if-not-root_right.false))
 
 pub returns : goal.returns
 unfolding roots_right

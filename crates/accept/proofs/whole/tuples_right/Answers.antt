@@ -3,7 +3,7 @@ use mathlib.Core.Bool.{true}
 use Prim.Native.Nat.{◌-◌}
 use native.Mathlib.Omega.{arith}
 use borrow.Author.Count.{below_none, below_more}
-use borrow.Author.Tests.{eq-eqb, ne_eqb, not-true, not_false}
+use borrow.Author.Tests.{eq-eqb, ne_eqb, not-true, not-false}
 use Rattle.laws.specs.Checks.{all_of, all_not}
 use Rattle.images.specs.Net.{slot_at}
 use Rattle.images.specs.Read.{net_of}
@@ -30,7 +30,7 @@ loop-k-preserved-then-x-eq-CONSUMED c =
     let slot = kind.before.before in
     let turn = slot.before.before in
     let given = turn.before.before.args in
-    (search rules, below_more _ _ turn.loop.invariant.1 (consumed_tuple given.t1 (net_of given.net.now) given.taken turn.loop.k slot.slot_at.ensures kind.if1.true c.has.ensures (not_false _ c.if-not-has.false)))
+    (search rules, below_more _ _ turn.loop.invariant.1 (consumed_tuple given.t1 (net_of given.net.now) given.taken turn.loop.k slot.slot_at.ensures kind.if1.true c.has.ensures (not-false _ c.if-not-has.false)))
 
 pub loop-k-preserved-then-deeds-i-ne-IN : goal.loop-k-preserved-then-deeds-i-ne-IN
 loop-k-preserved-then-deeds-i-ne-IN c =

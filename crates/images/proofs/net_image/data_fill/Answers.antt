@@ -2,7 +2,7 @@ use mathlib.Core.Path.{◌≡◌, ◌∙◌, ap, sym}
 use mathlib.Core.Bool.{true}
 use Prim.Native.Nat.{◌-◌}
 use native.Mathlib.Omega.{arith}
-use borrow.Author.Tests.{not-true, not_false}
+use borrow.Author.Tests.{not-true, not-false}
 use borrow.Author.Count.{below_none, below_more}
 use Rattle.laws.specs.Checks.{all_of, all_not}
 use Rattle.images.specs.Net.{field_or_blank}
@@ -20,7 +20,7 @@ returns-then-not-field_or_blank c =
 
 pub loop-j-preserved : goal.loop-j-preserved
 loop-j-preserved c =
-    let e = ap (field_or_blank c.args.count c.loop-j.j) (sym c.datum_of-d.ensures) ∙ sym c.field_or_blank.ensures ∙ not_false _ c.if-not-field_or_blank.false in
+    let e = ap (field_or_blank c.args.count c.loop-j.j) (sym c.datum_of-d.ensures) ∙ sym c.field_or_blank.ensures ∙ not-false _ c.if-not-field_or_blank.false in
     (search rules, below_more _ _ c.loop-j.invariant.1 e)
 
 pub returns : goal.returns

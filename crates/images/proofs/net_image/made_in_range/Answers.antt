@@ -1,4 +1,5 @@
 use mathlib.Core.Path.{◌∙◌, sym}
+use Rattle.names.specs.Reads.{key_or_none_read, key_or_none_bad, locality_or_none_read, locality_or_none_bad}
 use Rattle.images.specs.Net.{made_in_range}
 use Rattle.images.specs.Read.{slot_of}
 use Rattle.images.proofs.net_image.made_in_range.Goals as goal

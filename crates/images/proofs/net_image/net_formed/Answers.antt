@@ -1,5 +1,5 @@
 use mathlib.Core.Path.{◌∙◌, sym}
-use borrow.Author.Tests.{eq-eqb, ne_eqb, not-true, not_false}
+use borrow.Author.Tests.{eq-eqb, ne_eqb, not-true, not-false}
 use Rattle.images.specs.Read.{net_formed}
 use Rattle.images.proofs.net_image.net_formed.Goals as goal
 
@@ -13,4 +13,4 @@ returns-then-not-head_formed c = rw (eq-eqb _ _ c.if-b-ne-SIZE.false, sym c.head
 
 pub returns : goal.returns
 unfolding net_formed
-returns c = rw (eq-eqb _ _ c.if-b-ne-SIZE.false, sym c.head_formed.ensures ∙ not_false _ c.if-not-head_formed.false, c.slots_formed.ensures)
+returns c = rw (eq-eqb _ _ c.if-b-ne-SIZE.false, sym c.head_formed.ensures ∙ not-false _ c.if-not-head_formed.false, c.slots_formed.ensures)

@@ -1,5 +1,6 @@
 use mathlib.Core.Path.{◌∙◌, sym}
-use borrow.Author.Tests.{not_false, not-true}
+use borrow.Author.Tests.{not-false, not-true}
+use Rattle.names.specs.Reads.{locality_read, locality_bad, node_read, node_bad}
 use Rattle.images.specs.Formed.{process_here}
 use Rattle.images.proofs.net_image.process_in_range.Goals as goal
 
@@ -13,4 +14,4 @@ pub returns-then-not-refs_in_range : goal.returns-then-not-refs_in_range
 returns-then-not-refs_in_range c = rw (sym (process_here c.args.p.now c.requires.1), (locality_read _ _ (sym c.in-Locality.is ∙ c.of_byte.ensures)).1, (node_read _ _ (sym c.in-Node.is ∙ c.of_byte-2.ensures)).1, sym c.refs_in_range.ensures ∙ not-true _ c.if-not-refs_in_range.true)
 
 pub returns : goal.returns
-returns c = rw (sym (process_here c.args.p.now c.requires.1), (locality_read _ _ (sym c.in-Locality.is ∙ c.of_byte.ensures)).1, (node_read _ _ (sym c.in-Node.is ∙ c.of_byte-2.ensures)).1, sym c.refs_in_range.ensures ∙ not_false _ c.if-not-refs_in_range.false, c.variables_in_range.ensures)
+returns c = rw (sym (process_here c.args.p.now c.requires.1), (locality_read _ _ (sym c.in-Locality.is ∙ c.of_byte.ensures)).1, (node_read _ _ (sym c.in-Node.is ∙ c.of_byte-2.ensures)).1, sym c.refs_in_range.ensures ∙ not-false _ c.if-not-refs_in_range.false, c.variables_in_range.ensures)

@@ -2,7 +2,7 @@ use mathlib.Core.Path.{ap, ap₂, sym, ◌∙◌}
 use mathlib.Core.List.{List}
 use Prim.Native.Nat.{ℕ, ◌+◌, ◌*◌}
 use native.Mathlib.Omega.{arith}
-use borrow.Author.Tests.{not-true, not_false, ltb-true}
+use borrow.Author.Tests.{not-true, not-false, ltb-true}
 use Rattle.laws.specs.Parts.{put, part_size}
 use Rattle.images.specs.InPlace.{slot_put, slot_lent}
 use Rattle.images.specs.declared.Slot.{Slot}
@@ -15,16 +15,16 @@ returns-then-not-is_key c = rw (sym c.is_key.ensures ∙ not-true _ c.if-not-is_
 
 pub slice_bounds-write_around-end : goal.slice_bounds-write_around-end
 slice_bounds-write_around-end c =
-    omega (arith, ltb-true c.args.k.0 64 (sym c.is_key.ensures ∙ not_false _ c.if-not-is_key.false), c.requires.0)
+    omega (arith, ltb-true c.args.k.0 64 (sym c.is_key.ensures ∙ not-false _ c.if-not-is_key.false), c.requires.sized)
 
 pub write_around-requires : goal.write_around-requires
 write_around-requires c =
-    let there = slot_lent c.args.d.now c.args.k (sym c.is_key.ensures ∙ not_false _ c.if-not-is_key.false) in
-    (search rules, (c.requires.1.0 ∙ ap (λ (x : Slot). x.contents) there, c.requires.1.1 ∙ ap (λ (x : Slot). x.refs) there))
+    let there = slot_lent c.args.d.now c.args.k (sym c.is_key.ensures ∙ not-false _ c.if-not-is_key.false) in
+    (search rules, (c.requires.contents_value.0 ∙ ap (λ (x : Slot). x.contents) there, c.requires.contents_value.1 ∙ ap (λ (x : Slot). x.refs) there))
 
 pub returns : goal.returns
 unfolding slot_put
 returns c =
     let at = 16 + 56 * c.args.k.0 in
-    rw (sym c.is_key.ensures ∙ not_false _ c.if-not-is_key.false)
+    rw (sym c.is_key.ensures ∙ not-false _ c.if-not-is_key.false)
     (ap₂ (λ (k : ℕ) (y : List ℕ). put at k c.args.d.now y) (part_size at 56) c.write_around.ensures)

@@ -3,7 +3,7 @@ use mathlib.Core.List.{List}
 use Prim.Native.Nat.{ℕ, ◌+◌, ◌*◌}
 use native.Mathlib.Omega.{arith}
 use lib.ListN.{take, drop}
-use borrow.Author.Tests.{not-true, not_false, ltb-true}
+use borrow.Author.Tests.{not-true, not-false, ltb-true}
 use Rattle.laws.specs.Parts.{put, part_size}
 use Rattle.images.specs.Changed.{reference_set, reference_put}
 use Rattle.images.proofs.net_image.put_reference.Goals as goal
@@ -14,13 +14,13 @@ returns-then-not-is_key c = rw (sym c.is_key.ensures ∙ not-true _ c.if-not-is_
 
 pub slice_bounds-set_reference-end : goal.slice_bounds-set_reference-end
 slice_bounds-set_reference-end c =
-    omega (arith, ltb-true c.args.k.0 64 (sym c.is_key.ensures ∙ not_false _ c.if-not-is_key.false), c.requires.0)
+    omega (arith, ltb-true c.args.k.0 64 (sym c.is_key.ensures ∙ not-false _ c.if-not-is_key.false), c.requires.0)
 
 pub returns : goal.returns
 unfolding reference_put
 returns c =
     let at = 16 + 56 * c.args.k.0 in
     let b = c.args.b.now in
-    rw (sym c.is_key.ensures ∙ not_false _ c.if-not-is_key.false)
+    rw (sym c.is_key.ensures ∙ not-false _ c.if-not-is_key.false)
     (ap₂ (λ (k : ℕ) (y : List ℕ). put at k b y) (part_size at 56)
     (c.set_reference.ensures ∙ ap (λ (k : ℕ). reference_set c.args.i.0 c.args.e (take k (drop at b))) (part_size at 56)))

@@ -1,5 +1,5 @@
 use mathlib.Core.Path.{◌∙◌, sym}
-use borrow.Author.Tests.{not-true, not_false}
+use borrow.Author.Tests.{not-true, not-false}
 use Rattle.images.specs.Read.{read_net}
 use Rattle.images.specs.Sizes.{net_sized}
 use Rattle.images.proofs.net_image.read_net.Goals as goal
@@ -9,8 +9,8 @@ unfolding read_net
 returns-then-not-net_formed c = rw (sym c.net_formed.ensures ∙ not-true _ c.if-not-net_formed.true, c.refused.ensures)
 
 pub net_of-net-requires : goal.net_of-net-requires
-net_of-net-requires c = net_sized _ (sym c.net_formed.ensures ∙ not_false _ c.if-not-net_formed.false)
+net_of-net-requires c = net_sized _ (sym c.net_formed.ensures ∙ not-false _ c.if-not-net_formed.false)
 
 pub returns : goal.returns
 unfolding read_net
-returns c = rw (sym c.net_formed.ensures ∙ not_false _ c.if-not-net_formed.false, c.net_of-net.ensures)
+returns c = rw (sym c.net_formed.ensures ∙ not-false _ c.if-not-net_formed.false, c.net_of-net.ensures)

@@ -1,4 +1,5 @@
 use mathlib.Core.Path.{◌∙◌, sym}
+use Rattle.names.specs.Reads.{key_or_none_read, key_or_none_bad}
 use Rattle.images.specs.Formed.{refs_here}
 use Rattle.images.proofs.net_image.refs_in_range.Goals as goal
 

@@ -1,5 +1,5 @@
 use mathlib.Core.Path.{◌∙◌, sym}
-use borrow.Author.Tests.{not_false, not-true}
+use borrow.Author.Tests.{not-false, not-true}
 use Rattle.images.specs.Read.{slot_formed}
 use Rattle.images.proofs.net_image.slot_formed.Goals as goal
 
@@ -8,8 +8,8 @@ unfolding slot_formed
 returns-then-not-rest_is_zero c = rw (sym c.rest_is_zero.ensures ∙ not-true _ c.if-not-rest_is_zero.true)
 
 pub slot_in_range-requires : goal.slot_in_range-requires
-slot_in_range-requires c = (c.requires, sym c.rest_is_zero.ensures ∙ not_false _ c.if-not-rest_is_zero.false)
+slot_in_range-requires c = (c.requires, sym c.rest_is_zero.ensures ∙ not-false _ c.if-not-rest_is_zero.false)
 
 pub returns : goal.returns
 unfolding slot_formed
-returns c = rw (sym c.rest_is_zero.ensures ∙ not_false _ c.if-not-rest_is_zero.false, c.slot_in_range.ensures)
+returns c = rw (sym c.rest_is_zero.ensures ∙ not-false _ c.if-not-rest_is_zero.false, c.slot_in_range.ensures)

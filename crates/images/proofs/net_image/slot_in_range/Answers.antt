@@ -1,5 +1,5 @@
 use mathlib.Core.Path.{◌∙◌, sym}
-use borrow.Author.Tests.{eq-eqb, le-leb, lt-leb, ne_eqb, not_false, not-true}
+use borrow.Author.Tests.{eq-eqb, le-leb, lt-leb, ne_eqb, not-false, not-true}
 use Rattle.images.specs.Net.{slot_in_range}
 use Rattle.images.specs.Read.{slot_of}
 use Rattle.images.proofs.net_image.slot_in_range.Goals as goal
@@ -14,7 +14,7 @@ returns-then-not-makes_only c = rw (ne_eqb _ _ c.if-kind-eq-FREE.false, eq-eqb _
 
 pub returns-then-kind-eq-LIVE : goal.returns-then-kind-eq-LIVE
 unfolding slot_in_range slot_of
-returns-then-kind-eq-LIVE c = rw (ne_eqb _ _ c.if-kind-eq-FREE.false, eq-eqb _ _ c.if-kind-eq-LIVE.true, sym c.makes_only.ensures ∙ not_false _ c.if-not-makes_only.false, c.process_in_range.ensures)
+returns-then-kind-eq-LIVE c = rw (ne_eqb _ _ c.if-kind-eq-FREE.false, eq-eqb _ _ c.if-kind-eq-LIVE.true, sym c.makes_only.ensures ∙ not-false _ c.if-not-makes_only.false, c.process_in_range.ensures)
 
 pub returns-then-not-made_in_range : goal.returns-then-not-made_in_range
 unfolding slot_in_range slot_of
@@ -22,7 +22,7 @@ returns-then-not-made_in_range c = rw (ne_eqb _ _ c.if-kind-eq-FREE.false, ne_eq
 
 pub returns-then-kind-eq-PAST : goal.returns-then-kind-eq-PAST
 unfolding slot_in_range slot_of
-returns-then-kind-eq-PAST c = rw (ne_eqb _ _ c.if-kind-eq-FREE.false, ne_eqb _ _ c.if-kind-eq-LIVE.false, eq-eqb _ _ c.if-kind-eq-PAST.true, sym c.made_in_range.ensures ∙ not_false _ c.if-not-made_in_range.false, c.process_in_range-then-kind-eq-PAST.ensures)
+returns-then-kind-eq-PAST c = rw (ne_eqb _ _ c.if-kind-eq-FREE.false, ne_eqb _ _ c.if-kind-eq-LIVE.false, eq-eqb _ _ c.if-kind-eq-PAST.true, sym c.made_in_range.ensures ∙ not-false _ c.if-not-made_in_range.false, c.process_in_range-then-kind-eq-PAST.ensures)
 
 pub returns-then-kind-gt-CONSUMED : goal.returns-then-kind-gt-CONSUMED
 unfolding slot_in_range slot_of

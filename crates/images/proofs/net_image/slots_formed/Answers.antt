@@ -2,7 +2,7 @@ use mathlib.Core.Path.{◌≡◌, ◌∙◌, ap, sym}
 use mathlib.Core.Bool.{true}
 use Prim.Native.Nat.{ℕ, ◌+◌, ◌-◌, ◌*◌}
 use native.Mathlib.Omega.{arith}
-use borrow.Author.Tests.{not-true, not_false}
+use borrow.Author.Tests.{not-true, not-false}
 use borrow.Author.Count.{below_none, below_more}
 use Rattle.laws.specs.Checks.{all_of, all_not}
 use lib.ListN.{take, drop}
@@ -26,7 +26,7 @@ pub loop-i-preserved : goal.loop-i-preserved
 loop-i-preserved c =
     let b = c.args.b.now in
     let at = 16 + 56 * c.loop-i.i in
-    let e = ap slot_formed (sym (ap (λ (k : ℕ). take k (drop at b)) (part_size at 56))) ∙ sym c.slot_formed.ensures ∙ not_false _ c.if-not-slot_formed.false in
+    let e = ap slot_formed (sym (ap (λ (k : ℕ). take k (drop at b)) (part_size at 56))) ∙ sym c.slot_formed.ensures ∙ not-false _ c.if-not-slot_formed.false in
     (search rules, below_more _ _ c.loop-i.invariant.1 e)
 
 pub returns : goal.returns

@@ -2,7 +2,7 @@ use mathlib.Core.Path.{◌≡◌, ◌∙◌, ap, sym}
 use mathlib.Core.Bool.{true}
 use Prim.Native.Nat.{◌-◌}
 use native.Mathlib.Omega.{arith}
-use borrow.Author.Tests.{not-true, not_false}
+use borrow.Author.Tests.{not-true, not-false}
 use borrow.Author.Count.{below_none, below_more}
 use Rattle.laws.specs.Checks.{all_of, all_not}
 use Rattle.images.specs.Net.{is_datum}
@@ -20,7 +20,7 @@ returns-then-not-is_datum c =
 
 pub loop-j-preserved : goal.loop-j-preserved
 loop-j-preserved c =
-    let e = ap is_datum (sym c.datum_of-d.ensures) ∙ sym c.is_datum.ensures ∙ not_false _ c.if-not-is_datum.false in
+    let e = ap is_datum (sym c.datum_of-d.ensures) ∙ sym c.is_datum.ensures ∙ not-false _ c.if-not-is_datum.false in
     (search rules, below_more _ _ c.loop-j.invariant.1 e)
 
 pub returns : goal.returns

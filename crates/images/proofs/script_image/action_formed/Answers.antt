@@ -1,5 +1,5 @@
 use mathlib.Core.Path.{◌∙◌, ap, sym}
-use borrow.Author.Tests.{not-true, not_false}
+use borrow.Author.Tests.{not-true, not-false}
 use Rattle.images.specs.Script.{action_in_range}
 use Rattle.images.specs.Read.{action_formed}
 use Rattle.images.proofs.script_image.action_formed.Goals as goal
@@ -13,4 +13,4 @@ returns-then-not-rest_is_zero c = rw (sym c.rest_is_zero.ensures ∙ not-true _ 
 
 pub returns : goal.returns
 unfolding action_formed
-returns c = rw (sym c.rest_is_zero.ensures ∙ not_false _ c.if-not-rest_is_zero.false) (c.action_in_range.ensures ∙ ap action_in_range c.action_of-a.ensures)
+returns c = rw (sym c.rest_is_zero.ensures ∙ not-false _ c.if-not-rest_is_zero.false) (c.action_in_range.ensures ∙ ap action_in_range c.action_of-a.ensures)

@@ -1,5 +1,5 @@
 use mathlib.Core.Path.{◌∙◌, ap, sym}
-use borrow.Author.Tests.{le-ltb, lt-ltb, not_false, not-true}
+use borrow.Author.Tests.{le-ltb, lt-ltb, not-false, not-true}
 use Rattle.images.specs.declared.Row.{Row}
 use Rattle.images.specs.Script.{places_in_row, fields_in_row, action_in_range}
 use mathlib.Core.Path.{◌∙◌, sym}
@@ -23,7 +23,7 @@ unfolding action_in_range
 returns c =
     rw (
       lt-ltb _ _ c.if-a-ge-KINDS.false,
-      ap (λ (r : Row). places_in_row r c.args.a) (sym c.row_of-r.ensures) ∙ sym c.places_in_row.ensures ∙ not_false _ c.if-not-places_in_row.false,
+      ap (λ (r : Row). places_in_row r c.args.a) (sym c.row_of-r.ensures) ∙ sym c.places_in_row.ensures ∙ not-false _ c.if-not-places_in_row.false,
       c.fields_in_row.ensures,
       c.row_of-r.ensures,
     )

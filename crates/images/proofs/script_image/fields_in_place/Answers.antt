@@ -2,7 +2,7 @@ use mathlib.Core.Path.{◌≡◌, ◌∙◌, sym}
 use mathlib.Core.Bool.{true, false}
 use Prim.Native.Nat.{◌-◌}
 use native.Mathlib.Omega.{arith}
-use borrow.Author.Tests.{not-true, not_false}
+use borrow.Author.Tests.{not-true, not-false}
 use borrow.Author.Count.{below_none, below_more}
 use Rattle.laws.specs.Checks.{all_of, all_not}
 use Rattle.images.specs.Script.{field_in_place, fields_in_place}
@@ -19,7 +19,7 @@ returns-then-not-field_in_place c =
 
 pub loop-j-preserved : goal.loop-j-preserved
 loop-j-preserved c =
-    (search rules, below_more _ _ c.loop-j.invariant.1 (sym c.field_in_place.ensures ∙ not_false _ c.if-not-field_in_place.false))
+    (search rules, below_more _ _ c.loop-j.invariant.1 (sym c.field_in_place.ensures ∙ not-false _ c.if-not-field_in_place.false))
 
 pub returns : goal.returns
 unfolding fields_in_place

@@ -1,5 +1,5 @@
 use mathlib.Core.Path.{◌∙◌, sym}
-use borrow.Author.Tests.{not_false, not-true}
+use borrow.Author.Tests.{not-false, not-true}
 use Rattle.images.specs.Script.{fields_in_row}
 use Rattle.images.proofs.script_image.fields_in_row.Goals as goal
 
@@ -9,8 +9,8 @@ returns-then-not-count_in_place c = rw (sym c.count_in_place.ensures ∙ not-tru
 
 pub returns-then-not-fields_in_place : goal.returns-then-not-fields_in_place
 unfolding fields_in_row
-returns-then-not-fields_in_place c = rw (sym c.count_in_place.ensures ∙ not_false _ c.if-not-count_in_place.false, sym c.fields_in_place.ensures ∙ not-true _ c.if-not-fields_in_place.true)
+returns-then-not-fields_in_place c = rw (sym c.count_in_place.ensures ∙ not-false _ c.if-not-count_in_place.false, sym c.fields_in_place.ensures ∙ not-true _ c.if-not-fields_in_place.true)
 
 pub returns : goal.returns
 unfolding fields_in_row
-returns c = rw (sym c.count_in_place.ensures ∙ not_false _ c.if-not-count_in_place.false, sym c.fields_in_place.ensures ∙ not_false _ c.if-not-fields_in_place.false, c.formals_distinct.ensures)
+returns c = rw (sym c.count_in_place.ensures ∙ not-false _ c.if-not-count_in_place.false, sym c.fields_in_place.ensures ∙ not-false _ c.if-not-fields_in_place.false, c.formals_distinct.ensures)

@@ -1,5 +1,5 @@
 use mathlib.Core.Path.{◌∙◌, sym}
-use borrow.Author.Tests.{not-true, not_false}
+use borrow.Author.Tests.{not-true, not-false}
 use Rattle.images.specs.Script.{places_in_row}
 use Rattle.images.proofs.script_image.places_in_row.Goals as goal
 
@@ -10,14 +10,14 @@ returns-then-not-node_in_place c = rw (sym c.node_in_place.ensures ∙ not-true 
 pub returns-then-not-node_in_place-2 : goal.returns-then-not-node_in_place-2
 unfolding places_in_row
 returns-then-not-node_in_place-2 c =
-    rw (sym c.node_in_place.ensures ∙ not_false _ c.if-not-node_in_place.false, sym c.node_in_place-2.ensures ∙ not-true _ c.if-not-node_in_place-2.true)
+    rw (sym c.node_in_place.ensures ∙ not-false _ c.if-not-node_in_place.false, sym c.node_in_place-2.ensures ∙ not-true _ c.if-not-node_in_place-2.true)
 
 pub returns-then-not-target_in_place : goal.returns-then-not-target_in_place
 unfolding places_in_row
 returns-then-not-target_in_place c =
     rw (
-      sym c.node_in_place.ensures ∙ not_false _ c.if-not-node_in_place.false,
-      sym c.node_in_place-2.ensures ∙ not_false _ c.if-not-node_in_place-2.false,
+      sym c.node_in_place.ensures ∙ not-false _ c.if-not-node_in_place.false,
+      sym c.node_in_place-2.ensures ∙ not-false _ c.if-not-node_in_place-2.false,
       sym c.target_in_place.ensures ∙ not-true _ c.if-not-target_in_place.true,
     )
 
@@ -25,8 +25,8 @@ pub returns : goal.returns
 unfolding places_in_row
 returns c =
     rw (
-      sym c.node_in_place.ensures ∙ not_false _ c.if-not-node_in_place.false,
-      sym c.node_in_place-2.ensures ∙ not_false _ c.if-not-node_in_place-2.false,
-      sym c.target_in_place.ensures ∙ not_false _ c.if-not-target_in_place.false,
+      sym c.node_in_place.ensures ∙ not-false _ c.if-not-node_in_place.false,
+      sym c.node_in_place-2.ensures ∙ not-false _ c.if-not-node_in_place-2.false,
+      sym c.target_in_place.ensures ∙ not-false _ c.if-not-target_in_place.false,
       c.reference_in_place.ensures,
     )

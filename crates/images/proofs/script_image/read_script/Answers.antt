@@ -1,5 +1,5 @@
 use mathlib.Core.Path.{◌∙◌, sym}
-use borrow.Author.Tests.{not-true, not_false}
+use borrow.Author.Tests.{not-true, not-false}
 use Rattle.images.specs.Read.{read_script}
 use Rattle.images.specs.Sizes.{script_sized}
 use Rattle.images.proofs.script_image.read_script.Goals as goal
@@ -9,8 +9,8 @@ unfolding read_script
 returns-then-not-script_formed c = rw (sym c.script_formed.ensures ∙ not-true _ c.if-not-script_formed.true, c.refused.ensures)
 
 pub script_of-script-requires : goal.script_of-script-requires
-script_of-script-requires c = script_sized _ (sym c.script_formed.ensures ∙ not_false _ c.if-not-script_formed.false)
+script_of-script-requires c = script_sized _ (sym c.script_formed.ensures ∙ not-false _ c.if-not-script_formed.false)
 
 pub returns : goal.returns
 unfolding read_script
-returns c = rw (sym c.script_formed.ensures ∙ not_false _ c.if-not-script_formed.false, c.script_of-script.ensures)
+returns c = rw (sym c.script_formed.ensures ∙ not-false _ c.if-not-script_formed.false, c.script_of-script.ensures)

@@ -1,7 +1,7 @@
 use mathlib.Core.Path.{◌∙◌, ap, sym}
 use Prim.Native.Nat.{ℕ}
 use lib.Dec.{eqb}
-use borrow.Author.Tests.{eq-eqb, ne_eqb, not-true, not_false}
+use borrow.Author.Tests.{eq-eqb, ne_eqb, not-true, not-false}
 use Rattle.images.specs.Read.{script_formed}
 use Rattle.images.proofs.script_image.script_formed.Goals as goal
 
@@ -15,8 +15,8 @@ returns-then-not-head_formed c = rw (eq-eqb _ _ c.if-b-ne-SIZE.false, sym c.head
 
 pub returns-then-word_at-ne0 : goal.returns-then-word_at-ne0
 unfolding script_formed
-returns-then-word_at-ne0 c = rw (eq-eqb _ _ c.if-b-ne-SIZE.false, sym c.head_formed.ensures ∙ not_false _ c.if-not-head_formed.false, ap (λ (w : ℕ). eqb w 0) (sym c.word_at.ensures) ∙ ne_eqb _ _ c.if-word_at-ne0.true)
+returns-then-word_at-ne0 c = rw (eq-eqb _ _ c.if-b-ne-SIZE.false, sym c.head_formed.ensures ∙ not-false _ c.if-not-head_formed.false, ap (λ (w : ℕ). eqb w 0) (sym c.word_at.ensures) ∙ ne_eqb _ _ c.if-word_at-ne0.true)
 
 pub returns : goal.returns
 unfolding script_formed
-returns c = rw (eq-eqb _ _ c.if-b-ne-SIZE.false, sym c.head_formed.ensures ∙ not_false _ c.if-not-head_formed.false, ap (λ (w : ℕ). eqb w 0) (sym c.word_at.ensures) ∙ eq-eqb _ _ c.if-word_at-ne0.false, c.nodes_formed.ensures)
+returns c = rw (eq-eqb _ _ c.if-b-ne-SIZE.false, sym c.head_formed.ensures ∙ not-false _ c.if-not-head_formed.false, ap (λ (w : ℕ). eqb w 0) (sym c.word_at.ensures) ∙ eq-eqb _ _ c.if-word_at-ne0.false, c.nodes_formed.ensures)

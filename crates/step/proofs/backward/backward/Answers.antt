@@ -23,4 +23,4 @@ pub undo-touched-requires : goal.undo-touched-requires
 undo-touched-requires c = (c.requires, may_undo c.args.script.now c.args.net.now c.requires (λ i. (c.type_inv.script i).fits) (λ i. (c.slice_known-1.given i).fits) c.args.r _ c.slot_in-x.ensures (holds_true _ (sym c.is_past.ensures ∙ c.in-Holds.is)) _ c.in_the_way-way.ensures c.in-Clear.is)
 
 pub returns : goal.returns
-returns c = undoing_served c.args.script.now c.args.net.now c.requires (λ i. (c.type_inv.script i).fits) (λ i. (c.slice_known-1.given i).fits) c.args.r _ c.slot_in-x.ensures (holds_true _ (sym c.is_past.ensures ∙ c.in-Holds.is)) (holds_true _ (sym c.none_placed.ensures ∙ c.in-Holds-none_placed.is)) _ c.in_the_way-way.ensures c.in-Clear.is _ c.undo-touched.ensures.0 _ c.undo-touched.ensures.1
+returns c = undoing_served c.args.script.now c.args.net.now c.requires (λ i. (c.type_inv.script i).fits) (λ i. (c.slice_known-1.given i).fits) c.args.r _ c.slot_in-x.ensures (holds_true _ (sym c.is_past.ensures ∙ c.in-Holds.is)) (holds_true _ (sym c.none_placed.ensures ∙ c.in-Holds-none_placed.is)) _ c.in_the_way-way.ensures c.in-Clear.is _ c.undo-touched.ensures.value _ c.undo-touched.ensures.net_after

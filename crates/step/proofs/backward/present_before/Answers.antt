@@ -1,5 +1,5 @@
 use mathlib.Core.Path.{◌∙◌, sym}
-use borrow.Author.Tests.{eq-eqb, ne_eqb, ltb-true, not-true, not_false}
+use borrow.Author.Tests.{eq-eqb, ne_eqb, ltb-true, not-true, not-false}
 use Rattle.step.specs.Backward.{present_before}
 use Rattle.step.proofs.backward.present_before.Goals as goal
 
@@ -12,8 +12,8 @@ unfolding present_before
 returns-then-not-is_locality c = rw (eq-eqb _ _ c.if-kind-ne-NEWLOC.false, sym c.is_locality.ensures ∙ not-true _ c.if-not-is_locality.true)
 
 pub without-requires : goal.without-requires
-without-requires c = ltb-true _ 32 (sym c.is_locality.ensures ∙ not_false _ c.if-not-is_locality.false)
+without-requires c = ltb-true _ 32 (sym c.is_locality.ensures ∙ not-false _ c.if-not-is_locality.false)
 
 pub returns : goal.returns
 unfolding present_before
-returns c = rw (eq-eqb _ _ c.if-kind-ne-NEWLOC.false, sym c.is_locality.ensures ∙ not_false _ c.if-not-is_locality.false, c.without.ensures)
+returns c = rw (eq-eqb _ _ c.if-kind-ne-NEWLOC.false, sym c.is_locality.ensures ∙ not-false _ c.if-not-is_locality.false, c.without.ensures)

@@ -1,5 +1,5 @@
 use mathlib.Core.Path.{◌∙◌, sym}
-use borrow.Author.Tests.{eq-eqb, ne_eqb, ltb-true, not-true, not_false}
+use borrow.Author.Tests.{eq-eqb, ne_eqb, ltb-true, not-true, not-false}
 use lib.Dec.{leb}
 use Rattle.laws.specs.Choice.{and_right}
 use Rattle.step.specs.Tests.{place_fresh}
@@ -14,8 +14,8 @@ unfolding place_fresh
 returns-then-not-is_makeable c = rw (eq-eqb _ _ c.if-kind-ne-NEWLOC.false, sym c.is_makeable.ensures ∙ not-true _ c.if-not-is_makeable.true)
 
 pub has-requires : goal.has-requires
-has-requires c = ltb-true _ 32 (and_right (leb 8 c.args.l.0) _ (sym c.is_makeable.ensures ∙ not_false _ c.if-not-is_makeable.false))
+has-requires c = ltb-true _ 32 (and_right (leb 8 c.args.l.0) _ (sym c.is_makeable.ensures ∙ not-false _ c.if-not-is_makeable.false))
 
 pub returns : goal.returns
 unfolding place_fresh
-returns c = rw (eq-eqb _ _ c.if-kind-ne-NEWLOC.false, sym c.is_makeable.ensures ∙ not_false _ c.if-not-is_makeable.false, c.has.ensures)
+returns c = rw (eq-eqb _ _ c.if-kind-ne-NEWLOC.false, sym c.is_makeable.ensures ∙ not-false _ c.if-not-is_makeable.false, c.has.ensures)

@@ -1,6 +1,6 @@
 use mathlib.Core.Path.{◌∙◌, sym, ap}
 use mathlib.Core.Bool.{Bool}
-use borrow.Author.Tests.{not-true, not_false}
+use borrow.Author.Tests.{not-true, not-false}
 use Rattle.requests.specs.Answers.{as_needed}
 use Rattle.step.specs.Tests.{checked, places_by}
 use Rattle.step.proofs.checks.places_given.Goals as goal
@@ -15,16 +15,16 @@ pub returns-then-not-as_needed-2 : goal.returns-then-not-as_needed-2
 unfolding checked places_by
 returns-then-not-as_needed-2 c =
     let r = c.args.r in
-    rw (ap (λ (b : Bool). as_needed b r.used.0) (sym c.meets_tuple-meets.ensures) ∙ sym c.as_needed.ensures ∙ not_false _ c.if-not-as_needed.false, sym c.as_needed-2.ensures ∙ not-true _ c.if-not-as_needed-2.true)
+    rw (ap (λ (b : Bool). as_needed b r.used.0) (sym c.meets_tuple-meets.ensures) ∙ sym c.as_needed.ensures ∙ not-false _ c.if-not-as_needed.false, sym c.as_needed-2.ensures ∙ not-true _ c.if-not-as_needed-2.true)
 
 pub returns-then-not-as_needed-3 : goal.returns-then-not-as_needed-3
 unfolding checked places_by
 returns-then-not-as_needed-3 c =
     let r = c.args.r in
-    rw (ap (λ (b : Bool). as_needed b r.used.0) (sym c.meets_tuple-meets.ensures) ∙ sym c.as_needed.ensures ∙ not_false _ c.if-not-as_needed.false, sym c.as_needed-2.ensures ∙ not_false _ c.if-not-as_needed-2.false, ap (λ (b : Bool). as_needed b r.second.0) (sym c.makes_second-two.ensures) ∙ sym c.as_needed-3.ensures ∙ not-true _ c.if-not-as_needed-3.true)
+    rw (ap (λ (b : Bool). as_needed b r.used.0) (sym c.meets_tuple-meets.ensures) ∙ sym c.as_needed.ensures ∙ not-false _ c.if-not-as_needed.false, sym c.as_needed-2.ensures ∙ not-false _ c.if-not-as_needed-2.false, ap (λ (b : Bool). as_needed b r.second.0) (sym c.makes_second-two.ensures) ∙ sym c.as_needed-3.ensures ∙ not-true _ c.if-not-as_needed-3.true)
 
 pub returns : goal.returns
 unfolding checked places_by
 returns c =
     let r = c.args.r in
-    rw (ap (λ (b : Bool). as_needed b r.used.0) (sym c.meets_tuple-meets.ensures) ∙ sym c.as_needed.ensures ∙ not_false _ c.if-not-as_needed.false, sym c.as_needed-2.ensures ∙ not_false _ c.if-not-as_needed-2.false, ap (λ (b : Bool). as_needed b r.second.0) (sym c.makes_second-two.ensures) ∙ sym c.as_needed-3.ensures ∙ not_false _ c.if-not-as_needed-3.false, c.told.ensures, c.as_needed-b.ensures)
+    rw (ap (λ (b : Bool). as_needed b r.used.0) (sym c.meets_tuple-meets.ensures) ∙ sym c.as_needed.ensures ∙ not-false _ c.if-not-as_needed.false, sym c.as_needed-2.ensures ∙ not-false _ c.if-not-as_needed-2.false, ap (λ (b : Bool). as_needed b r.second.0) (sym c.makes_second-two.ensures) ∙ sym c.as_needed-3.ensures ∙ not-false _ c.if-not-as_needed-3.false, c.told.ensures, c.as_needed-b.ensures)

@@ -1,5 +1,5 @@
 use mathlib.Core.Path.{◌∙◌, sym}
-use borrow.Author.Tests.{not-true, not_false}
+use borrow.Author.Tests.{not-true, not-false}
 use Rattle.step.specs.Tests.{second_fresh}
 use Rattle.step.proofs.checks.second_fresh.Goals as goal
 
@@ -9,8 +9,8 @@ returns-then-not-makes_second c = rw (sym c.makes_second.ensures ∙ not-true _ 
 
 pub returns-then-not-free : goal.returns-then-not-free
 unfolding second_fresh
-returns-then-not-free c = rw (sym c.makes_second.ensures ∙ not_false _ c.if-not-makes_second.false, not-true c.args.free c.if-not-free.true)
+returns-then-not-free c = rw (sym c.makes_second.ensures ∙ not-false _ c.if-not-makes_second.false, not-true c.args.free c.if-not-free.true)
 
 pub returns : goal.returns
 unfolding second_fresh
-returns c = rw (sym c.makes_second.ensures ∙ not_false _ c.if-not-makes_second.false, not_false c.args.free c.if-not-free.false)
+returns c = rw (sym c.makes_second.ensures ∙ not-false _ c.if-not-makes_second.false, not-false c.args.free c.if-not-free.false)

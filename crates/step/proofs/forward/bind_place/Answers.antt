@@ -2,6 +2,7 @@ use Prim.Native.Nat.{◌<◌}
 use mathlib.Core.Path.{ap, sym, ◌∙◌, subst}
 use borrow.Author.Tests.{ltb-true}
 use Rattle.names.specs.declared.Variable.{Variable}
+use Rattle.names.specs.Reads.{variable_read, variable_bad}
 use Rattle.images.specs.Changed.{variable_put}
 use Rattle.products.specs.Products.{made_datum}
 use Rattle.step.specs.Next.{bound_place}

@@ -1,5 +1,5 @@
 use mathlib.Core.Path.{◌∙◌, sym}
-use borrow.Author.Tests.{eq-eqb, ne_eqb, ltb-true, not-true, not_false}
+use borrow.Author.Tests.{eq-eqb, ne_eqb, ltb-true, not-true, not-false}
 use Rattle.step.specs.Forward.{present_after}
 use Rattle.step.proofs.forward.present_after.Goals as goal
 
@@ -12,8 +12,8 @@ unfolding present_after
 returns-then-not-is_locality c = rw (eq-eqb _ _ c.if-kind-ne-NEWLOC.false, sym c.is_locality.ensures ∙ not-true _ c.if-not-is_locality.true)
 
 pub with-requires : goal.with-requires
-with-requires c = ltb-true _ 32 (sym c.is_locality.ensures ∙ not_false _ c.if-not-is_locality.false)
+with-requires c = ltb-true _ 32 (sym c.is_locality.ensures ∙ not-false _ c.if-not-is_locality.false)
 
 pub returns : goal.returns
 unfolding present_after
-returns c = rw (eq-eqb _ _ c.if-kind-ne-NEWLOC.false, sym c.is_locality.ensures ∙ not_false _ c.if-not-is_locality.false, c.with.ensures)
+returns c = rw (eq-eqb _ _ c.if-kind-ne-NEWLOC.false, sym c.is_locality.ensures ∙ not-false _ c.if-not-is_locality.false, c.with.ensures)

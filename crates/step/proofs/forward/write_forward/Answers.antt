@@ -7,6 +7,6 @@ pub returns : goal.returns
 returns c =
     let g = c.args in
     let a = action_of g.node.now in
-    let h = at_found a (net_of g.net.now) g.r g.at c.requires.1 in
-    forward_written a g.net.now c.requires.0.1 (λ i. (c.type_inv.net i).fits) g.r c.requires.0.2 (found a (net_of g.net.now) g.r h.0) g.at h.1 _ _ _ _ _ _
+    let h = at_found a (net_of g.net.now) g.r g.at c.requires.r_value in
+    forward_written a g.net.now c.requires.node_sized.1 (λ i. (c.type_inv.net i).fits) g.r c.requires.node_sized.2 (found a (net_of g.net.now) g.r h.0) g.at h.1 _ _ _ _ _ _
     c.put_event.ensures c.put_next.ensures c.bind_next.ensures c.put_second.ensures c.put_taken.ensures c.put_made.ensures
