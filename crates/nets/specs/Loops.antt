@@ -51,7 +51,7 @@ module _ {R : Rules} (lawful : Lawful R) (n : Net R) (ok : Accepted n) (r : Requ
       each (B.made_free h q) =
           q ∙ sym (subst (λ (c : Kind). Formed c (n.slot k)) (can.fresh_keys k (O.by_x lawful n ok r can (made_key k) r.key refl h)) (ok.formed k))
       each (B.itself z q) =
-          let l : (n.slot k).kind ≡ live = ap (λ (j : ℕ). (n.slot j).kind) z ∙ can.is_live in
+          let l : (n.slot k).kind ≡ live = ap (λ (j : ℕ). (n.slot j).kind) z ∙ can.is_live_lem in
           q ∙ live_again k (inl l) (ap is_held l)
       each (B.given_back w q) =
           let l = O.took_live lawful n ok r can k (O.by_x lawful n ok r can (took_tuple k) r.key refl w) in

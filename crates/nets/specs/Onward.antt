@@ -38,7 +38,7 @@ module _ {R : Rules} (lawful : Lawful R) (n : Net R) (ok : Accepted n) (r : Requ
   t = (met n d).body
 
   x_held : x ∈ held n
-  x_held = ap is_held can.is_live
+  x_held = ap is_held can.is_live_lem
 
   x_below : x < R.keys
   x_below = held_below n ok x x_held
@@ -65,7 +65,7 @@ module _ {R : Rules} (lawful : Lawful R) (n : Net R) (ok : Accepted n) (r : Requ
       cases (made_key k d) (λ h. new h (can.fresh_keys k h) (rw (slot_is k, h)))
       (λ h.
       cases (eqb k x)
-      (λ e. itself (eqb-true k x e) (ap (λ (j : ℕ). (n.slot j).kind) (eqb-true k x e) ∙ can.is_live) (rw (slot_is k, h, e)))
+      (λ e. itself (eqb-true k x e) (ap (λ (j : ℕ). (n.slot j).kind) (eqb-true k x e) ∙ can.is_live_lem) (rw (slot_is k, h, e)))
       (λ e.
       cases (took_tuple k d) (λ w. eaten w (took_live k w) (rw (slot_is k, h, e, w)))
       (λ w. untouched h (eqb-false k x e) w (rw (slot_is k, h, e, w)))))
@@ -245,7 +245,7 @@ module _ {R : Rules} (lawful : Lawful R) (n : Net R) (ok : Accepted n) (r : Requ
   new_formed k h = each (made_way x d t k can.rule.places h)
     where
       process : R.is_process d.body ≡ true
-      process = (subst (λ (c : Kind). Formed c (n.slot x)) can.is_live (ok.formed x)).1
+      process = (subst (λ (c : Kind). Formed c (n.slot x)) can.is_live_lem (ok.formed x)).1
 
       tuple_met : uses (R.act d.body) ≡ true → R.is_tuple t ≡ true
       tuple_met u =
@@ -298,7 +298,7 @@ module _ {R : Rules} (lawful : Lawful R) (n : Net R) (ok : Accepted n) (r : Requ
 
       formed : (k : ℕ) → Way k → Formed (m.slot k).kind (m.slot k)
       formed k (new w f q) = rw q (new_formed k w)
-      formed k (itself z l q) = rw q (subst (λ (c : Kind). Formed c (n.slot x)) can.is_live (ok.formed x)).1
+      formed k (itself z l q) = rw q (subst (λ (c : Kind). Formed c (n.slot x)) can.is_live_lem (ok.formed x)).1
       formed k (eaten w l q) = rw q (refl, (subst (λ (c : Kind). Formed c (n.slot k)) l (ok.formed k)).1)
       formed k (untouched w z l q) = rw q (ok.formed k)
 

@@ -126,7 +126,7 @@ module _ {R : Rules} (lawful : Lawful R) where
   second_concerns l m b c =
       or_cases (R.names (R.second b) l) (eqb (R.at (R.second b)) l) c
       (λ q. or_left (R.names b l) _ (lawful.second_names b l m q))
-      (λ q. lives (eqb-true (R.at (R.second b)) l q) (lawful.second_at b))
+      (λ q. lives (eqb-true (R.at (R.second b)) l q) (lawful.second_at_lem b))
     where
       lives : R.at (R.second b) ≡ l
           → (R.at (R.second b) ≡ R.at b) ⊎ ((aims (R.act b) ≡ true) × (R.at (R.second b) ≡ R.target b)) → concerns R l b ≡ true

@@ -21,7 +21,7 @@ returns-then-not-event_agrees c =
     let turn = c.before.before.before.before.before.before in
     let event = c.before.before in
     sym (all_not key_count _ turn.loop.k c.loop-k-test.true
-    (event_told _ _ _ event.before.before.slot_at.ensures event.if1.false c.event_agrees.ensures (not-true _ c.if-not-event_agrees.true)))
+    (event_told _ _ _ event.before.before.slot_at.ensures event.if1.false c.event_agrees.ensures c.if-not-event_agrees.true))
 
 pub loop-k-preserved : goal.loop-k-preserved
 loop-k-preserved c =
@@ -29,7 +29,7 @@ loop-k-preserved c =
     let event = c.before.before in (
       search rules,
       below_more _ _ turn.loop.invariant.1
-          (event_told _ _ _ event.before.before.slot_at.ensures event.if1.false c.event_agrees.ensures (not-false _ c.if-not-event_agrees.false)),
+          (event_told _ _ _ event.before.before.slot_at.ensures event.if1.false c.event_agrees.ensures c.if-not-event_agrees.false),
     )
 
 pub returns : goal.returns

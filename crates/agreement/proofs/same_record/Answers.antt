@@ -17,8 +17,8 @@ returns-then-x-y-3 c = rw (eq-eqb _ _ c.if-x-y.false, eq-eqb _ _ c.if-x-y-2.fals
 
 pub returns-then-not-same_data : goal.returns-then-not-same_data
 unfolding same_record
-returns-then-not-same_data c = rw (eq-eqb _ _ c.if-x-y.false, eq-eqb _ _ c.if-x-y-2.false, eq-eqb _ _ c.if-x-y-3.false, sym c.same_data.ensures ∙ not-true _ c.if-not-same_data.true)
+returns-then-not-same_data c = rw (eq-eqb _ _ c.if-x-y.false, eq-eqb _ _ c.if-x-y-2.false, eq-eqb _ _ c.if-x-y-3.false, sym c.same_data.ensures ∙ c.if-not-same_data.true)
 
 pub returns : goal.returns
 unfolding same_record
-returns c = rw (eq-eqb _ _ c.if-x-y.false, eq-eqb _ _ c.if-x-y-2.false, eq-eqb _ _ c.if-x-y-3.false, sym c.same_data.ensures ∙ not-false _ c.if-not-same_data.false, c.same_refs.ensures)
+returns c = rw (eq-eqb _ _ c.if-x-y.false, eq-eqb _ _ c.if-x-y-2.false, eq-eqb _ _ c.if-x-y-3.false, sym c.same_data.ensures ∙ c.if-not-same_data.false, c.same_refs.ensures)

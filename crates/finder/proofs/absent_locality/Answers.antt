@@ -14,12 +14,12 @@ loop-l-init c = (search rules, search rules, absent_first _)
 pub returns-then-not-has : goal.returns-then-not-has
 returns-then-not-has c =
     let w = c.loop-l in
-    absent_at _ w.l w.invariant.0 (omega (arith, c.loop-l-test.true)) w.invariant.2 (sym c.has.ensures ∙ not-true _ c.if-not-has.true)
+    absent_at _ w.l w.invariant.0 (omega (arith, c.loop-l-test.true)) w.invariant.2 (sym c.has.ensures ∙ c.if-not-has.true)
 
 pub loop-l-preserved : goal.loop-l-preserved
 loop-l-preserved c =
     let w = c.loop-l in
-    (search rules, search rules, below_more _ w.l w.invariant.2 (absent_not _ w.l (sym c.has.ensures ∙ not-false _ c.if-not-has.false)))
+    (search rules, search rules, below_more _ w.l w.invariant.2 (absent_not _ w.l (sym c.has.ensures ∙ c.if-not-has.false)))
 
 pub returns : goal.returns
 returns c =

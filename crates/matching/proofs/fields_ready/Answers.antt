@@ -15,10 +15,10 @@ loop-j-init c = (search rules, below_none _)
 pub returns-then-not-is_ready : goal.returns-then-not-is_ready
 unfolding fields_ready
 returns-then-not-is_ready c =
-    sym (all_not 4 _ c.loop-j.j c.loop-j-test.true (sym c.is_ready.ensures ∙ not-true _ c.if-not-is_ready.true))
+    sym (all_not 4 _ c.loop-j.j c.loop-j-test.true (sym c.is_ready.ensures ∙ c.if-not-is_ready.true))
 
 pub loop-j-preserved : goal.loop-j-preserved
-loop-j-preserved c = (search rules, below_more _ _ c.loop-j.invariant.1 (sym c.is_ready.ensures ∙ not-false _ c.if-not-is_ready.false))
+loop-j-preserved c = (search rules, below_more _ _ c.loop-j.invariant.1 (sym c.is_ready.ensures ∙ c.if-not-is_ready.false))
 
 pub returns : goal.returns
 unfolding fields_ready

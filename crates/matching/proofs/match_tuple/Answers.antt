@@ -24,12 +24,12 @@ returns-then-not-place_meets c =
     no_match c.args.vars c.action_of-a.result c.slot_of-t.result
     (rw (
       eq-eqb _ _ c.if-a-t.false,
-      all_not 4 _ c.loop-j.j c.loop-j-test.true (sym c.place_meets.ensures ∙ not-true _ c.if-not-place_meets.true),
+      all_not 4 _ c.loop-j.j c.loop-j-test.true (sym c.place_meets.ensures ∙ c.if-not-place_meets.true),
     )) ∙
     (λ i. match_of c.args.vars (c.action_of-a.ensures i) (c.slot_of-t.ensures i))
 
 pub loop-j-preserved : goal.loop-j-preserved
-loop-j-preserved c = (search rules, below_more _ _ c.loop-j.invariant.1 (sym c.place_meets.ensures ∙ not-false _ c.if-not-place_meets.false))
+loop-j-preserved c = (search rules, below_more _ _ c.loop-j.invariant.1 (sym c.place_meets.ensures ∙ c.if-not-place_meets.false))
 
 pub returns : goal.returns
 unfolding meets

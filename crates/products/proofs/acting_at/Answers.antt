@@ -5,8 +5,8 @@ use Rattle.products.proofs.acting_at.Goals as goal
 
 pub returns-then-not-has_target : goal.returns-then-not-has_target
 unfolding acting_at
-returns-then-not-has_target c = rw (sym c.has_target.ensures ∙ not-true _ c.if-not-has_target.true)
+returns-then-not-has_target c = rw (sym c.has_target.ensures ∙ c.if-not-has_target.true)
 
 pub returns : goal.returns
 unfolding acting_at
-returns c = rw (sym c.has_target.ensures ∙ not-false _ c.if-not-has_target.false, c.find_target.ensures)
+returns c = rw (sym c.has_target.ensures ∙ c.if-not-has_target.false, c.find_target.ensures)

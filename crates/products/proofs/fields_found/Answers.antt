@@ -3,7 +3,7 @@ use borrow.Author.Tests.{not-true, not-false}
 use Rattle.products.proofs.fields_found.Goals as goal
 
 pub returns-then-not-has_fields : goal.returns-then-not-has_fields
-returns-then-not-has_fields c = rw (sym c.has_fields.ensures ∙ not-true _ c.if-not-has_fields.true)
+returns-then-not-has_fields c = rw (sym c.has_fields.ensures ∙ c.if-not-has_fields.true)
 
 pub returns : goal.returns
-returns c = rw (sym c.has_fields.ensures ∙ not-false _ c.if-not-has_fields.false, c.fields_ready.ensures)
+returns c = rw (sym c.has_fields.ensures ∙ c.if-not-has_fields.false, c.fields_ready.ensures)

@@ -13,10 +13,10 @@ pub loop-j-init : goal.loop-j-init
 loop-j-init c = (search rules, below_none _)
 
 pub returns-then-not-is_home : goal.returns-then-not-is_home
-returns-then-not-is_home c = sym (all_not 8 _ c.loop-j.j c.loop-j-test.true (sym c.is_home.ensures ∙ not-true _ c.if-not-is_home.true))
+returns-then-not-is_home c = sym (all_not 8 _ c.loop-j.j c.loop-j-test.true (sym c.is_home.ensures ∙ c.if-not-is_home.true))
 
 pub loop-j-preserved : goal.loop-j-preserved
-loop-j-preserved c = (search rules, below_more _ _ c.loop-j.invariant.1 (sym c.is_home.ensures ∙ not-false _ c.if-not-is_home.false))
+loop-j-preserved c = (search rules, below_more _ _ c.loop-j.invariant.1 (sym c.is_home.ensures ∙ c.if-not-is_home.false))
 
 pub returns : goal.returns
 returns c =

@@ -9,8 +9,8 @@ returns-then-x-ge-FIRST_MADE c = rw (le-ltb _ _ c.if-x-ge-FIRST_MADE.true)
 
 pub returns-then-not-all_home : goal.returns-then-not-all_home
 unfolding rooted
-returns-then-not-all_home c = rw (lt-ltb _ _ c.if-x-ge-FIRST_MADE.false, sym c.all_home.ensures ∙ not-true _ c.if-not-all_home.true)
+returns-then-not-all_home c = rw (lt-ltb _ _ c.if-x-ge-FIRST_MADE.false, sym c.all_home.ensures ∙ c.if-not-all_home.true)
 
 pub returns : goal.returns
 unfolding rooted
-returns c = rw (lt-ltb _ _ c.if-x-ge-FIRST_MADE.false, sym c.all_home.ensures ∙ not-false _ c.if-not-all_home.false, c.refs_are.ensures)
+returns c = rw (lt-ltb _ _ c.if-x-ge-FIRST_MADE.false, sym c.all_home.ensures ∙ c.if-not-all_home.false, c.refs_are.ensures)

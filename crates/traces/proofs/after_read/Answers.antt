@@ -9,8 +9,8 @@ returns-then-deed-ne-READ c = rw (ne_eqb _ _ c.if-deed-ne-READ.true)
 
 pub returns-then-not-is_key : goal.returns-then-not-is_key
 unfolding after_read_by
-returns-then-not-is_key c = rw (eq-eqb _ _ c.if-deed-ne-READ.false, sym c.is_key.ensures ∙ not-true _ c.if-not-is_key.true)
+returns-then-not-is_key c = rw (eq-eqb _ _ c.if-deed-ne-READ.false, sym c.is_key.ensures ∙ c.if-not-is_key.true)
 
 pub returns : goal.returns
 unfolding after_read_by
-returns c = rw (eq-eqb _ _ c.if-deed-ne-READ.false, sym c.is_key.ensures ∙ not-false _ c.if-not-is_key.false)
+returns c = rw (eq-eqb _ _ c.if-deed-ne-READ.false, sym c.is_key.ensures ∙ c.if-not-is_key.false)

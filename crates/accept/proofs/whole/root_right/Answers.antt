@@ -13,15 +13,15 @@ returns-then-made c = rw (sym c.is_free.ensures ∙ c.if-is_free.false, c.if-mad
 
 pub returns-then-not-is_rooted : goal.returns-then-not-is_rooted
 unfolding root_right
-returns-then-not-is_rooted c = rw (sym c.is_free.ensures ∙ c.if-is_free.false, c.if-made.false, sym c.is_rooted.ensures ∙ not-true _ c.if-not-is_rooted.true)
+returns-then-not-is_rooted c = rw (sym c.is_free.ensures ∙ c.if-is_free.false, c.if-made.false, sym c.is_rooted.ensures ∙ c.if-not-is_rooted.true)
 
 pub returns-then-not-is_locality : goal.returns-then-not-is_locality
 unfolding root_right
-returns-then-not-is_locality c = rw (sym c.is_free.ensures ∙ c.if-is_free.false, c.if-made.false, sym c.is_rooted.ensures ∙ not-false _ c.if-not-is_rooted.false, sym c.is_locality.ensures ∙ not-true _ c.if-not-is_locality.true)
+returns-then-not-is_locality c = rw (sym c.is_free.ensures ∙ c.if-is_free.false, c.if-made.false, sym c.is_rooted.ensures ∙ c.if-not-is_rooted.false, sym c.is_locality.ensures ∙ c.if-not-is_locality.true)
 
 pub has-requires : goal.has-requires
-has-requires c = ltb-true _ 32 (sym c.is_locality.ensures ∙ not-false _ c.if-not-is_locality.false)
+has-requires c = ltb-true _ 32 (sym c.is_locality.ensures ∙ c.if-not-is_locality.false)
 
 pub returns : goal.returns
 unfolding root_right
-returns c = rw (sym c.is_free.ensures ∙ c.if-is_free.false, c.if-made.false, sym c.is_rooted.ensures ∙ not-false _ c.if-not-is_rooted.false, sym c.is_locality.ensures ∙ not-false _ c.if-not-is_locality.false, c.has.ensures)
+returns c = rw (sym c.is_free.ensures ∙ c.if-is_free.false, c.if-made.false, sym c.is_rooted.ensures ∙ c.if-not-is_rooted.false, sym c.is_locality.ensures ∙ c.if-not-is_locality.false, c.has.ensures)

@@ -19,13 +19,13 @@ unfolding roots_right
 returns-then-not-root_right c =
     let turn = c.before.before.before.before.before in
     let a = turn.before.before.before.args in
-    sym (all_not 64 _ turn.loop.k c.loop-k-test.true (root_at (net_of a.net.now) a.made turn.loop.k turn.before.present-in.ensures c.slot_at-x.ensures c.has-by_event.ensures c.root_right.ensures ∙ not-true _ c.if-not-root_right.true))
+    sym (all_not 64 _ turn.loop.k c.loop-k-test.true (root_at (net_of a.net.now) a.made turn.loop.k turn.before.present-in.ensures c.slot_at-x.ensures c.has-by_event.ensures c.root_right.ensures ∙ c.if-not-root_right.true))
 
 pub loop-k-preserved : goal.loop-k-preserved
 loop-k-preserved c =
     let turn = c.before.before.before.before.before in
     let a = turn.before.before.before.args in
-    (search rules, below_more _ _ turn.loop.invariant.1 (root_at (net_of a.net.now) a.made turn.loop.k turn.before.present-in.ensures c.slot_at-x.ensures c.has-by_event.ensures c.root_right.ensures ∙ not-false _ c.if-not-root_right.false))
+    (search rules, below_more _ _ turn.loop.invariant.1 (root_at (net_of a.net.now) a.made turn.loop.k turn.before.present-in.ensures c.slot_at-x.ensures c.has-by_event.ensures c.root_right.ensures ∙ c.if-not-root_right.false))
 
 pub returns : goal.returns
 unfolding roots_right

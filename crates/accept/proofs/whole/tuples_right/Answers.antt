@@ -22,7 +22,7 @@ returns-then-not-has c =
     let slot = kind.before.before in
     let turn = slot.before.before in
     let given = turn.before.before.args in
-    sym (all_not 64 _ turn.loop.k slot.before.loop-test.true (consumed_tuple given.t1 (net_of given.net.now) given.taken turn.loop.k slot.slot_at.ensures kind.if1.true c.has.ensures (not-true _ c.if-not-has.true)))
+    sym (all_not 64 _ turn.loop.k slot.before.loop-test.true (consumed_tuple given.t1 (net_of given.net.now) given.taken turn.loop.k slot.slot_at.ensures kind.if1.true c.has.ensures c.if-not-has.true))
 
 pub loop-k-preserved-then-x-eq-CONSUMED : goal.loop-k-preserved-then-x-eq-CONSUMED
 loop-k-preserved-then-x-eq-CONSUMED c =
@@ -30,7 +30,7 @@ loop-k-preserved-then-x-eq-CONSUMED c =
     let slot = kind.before.before in
     let turn = slot.before.before in
     let given = turn.before.before.args in
-    (search rules, below_more _ _ turn.loop.invariant.1 (consumed_tuple given.t1 (net_of given.net.now) given.taken turn.loop.k slot.slot_at.ensures kind.if1.true c.has.ensures (not-false _ c.if-not-has.false)))
+    (search rules, below_more _ _ turn.loop.invariant.1 (consumed_tuple given.t1 (net_of given.net.now) given.taken turn.loop.k slot.slot_at.ensures kind.if1.true c.has.ensures c.if-not-has.false))
 
 pub loop-k-preserved-then-deeds-i-ne-IN : goal.loop-k-preserved-then-deeds-i-ne-IN
 loop-k-preserved-then-deeds-i-ne-IN c =

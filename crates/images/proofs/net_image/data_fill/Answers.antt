@@ -15,12 +15,12 @@ loop-j-init c = (search rules, below_none _)
 
 pub returns-then-not-field_or_blank : goal.returns-then-not-field_or_blank
 returns-then-not-field_or_blank c =
-    let e = ap (field_or_blank c.args.count c.loop-j.j) (sym c.datum_of-d.ensures) ∙ sym c.field_or_blank.ensures ∙ not-true _ c.if-not-field_or_blank.true in
+    let e = ap (field_or_blank c.args.count c.loop-j.j) (sym c.datum_of-d.ensures) ∙ sym c.field_or_blank.ensures ∙ c.if-not-field_or_blank.true in
     sym (all_not 8 _ c.loop-j.j c.loop-j-test.true e) ∙ data_here c.args.p.now c.args.count
 
 pub loop-j-preserved : goal.loop-j-preserved
 loop-j-preserved c =
-    let e = ap (field_or_blank c.args.count c.loop-j.j) (sym c.datum_of-d.ensures) ∙ sym c.field_or_blank.ensures ∙ not-false _ c.if-not-field_or_blank.false in
+    let e = ap (field_or_blank c.args.count c.loop-j.j) (sym c.datum_of-d.ensures) ∙ sym c.field_or_blank.ensures ∙ c.if-not-field_or_blank.false in
     (search rules, below_more _ _ c.loop-j.invariant.1 e)
 
 pub returns : goal.returns

@@ -9,8 +9,8 @@ returns-then-b-ne-SIZE c = rw (ne_eqb _ _ c.if-b-ne-SIZE.true)
 
 pub returns-then-not-head_formed : goal.returns-then-not-head_formed
 unfolding net_formed
-returns-then-not-head_formed c = rw (eq-eqb _ _ c.if-b-ne-SIZE.false, sym c.head_formed.ensures ∙ not-true _ c.if-not-head_formed.true)
+returns-then-not-head_formed c = rw (eq-eqb _ _ c.if-b-ne-SIZE.false, sym c.head_formed.ensures ∙ c.if-not-head_formed.true)
 
 pub returns : goal.returns
 unfolding net_formed
-returns c = rw (eq-eqb _ _ c.if-b-ne-SIZE.false, sym c.head_formed.ensures ∙ not-false _ c.if-not-head_formed.false, c.slots_formed.ensures)
+returns c = rw (eq-eqb _ _ c.if-b-ne-SIZE.false, sym c.head_formed.ensures ∙ c.if-not-head_formed.false, c.slots_formed.ensures)

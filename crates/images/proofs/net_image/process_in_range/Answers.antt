@@ -11,7 +11,7 @@ pub returns-in_default-of_byte : goal.returns-in_default-of_byte
 returns-in_default-of_byte c = rw (sym (process_here c.args.p.now c.requires.1), (locality_read _ _ (sym c.in-Locality.is ∙ c.of_byte.ensures)).1, node_bad _ (sym c.in_default-of_byte.is ∙ c.of_byte-2.ensures))
 
 pub returns-then-not-refs_in_range : goal.returns-then-not-refs_in_range
-returns-then-not-refs_in_range c = rw (sym (process_here c.args.p.now c.requires.1), (locality_read _ _ (sym c.in-Locality.is ∙ c.of_byte.ensures)).1, (node_read _ _ (sym c.in-Node.is ∙ c.of_byte-2.ensures)).1, sym c.refs_in_range.ensures ∙ not-true _ c.if-not-refs_in_range.true)
+returns-then-not-refs_in_range c = rw (sym (process_here c.args.p.now c.requires.1), (locality_read _ _ (sym c.in-Locality.is ∙ c.of_byte.ensures)).1, (node_read _ _ (sym c.in-Node.is ∙ c.of_byte-2.ensures)).1, sym c.refs_in_range.ensures ∙ c.if-not-refs_in_range.true)
 
 pub returns : goal.returns
-returns c = rw (sym (process_here c.args.p.now c.requires.1), (locality_read _ _ (sym c.in-Locality.is ∙ c.of_byte.ensures)).1, (node_read _ _ (sym c.in-Node.is ∙ c.of_byte-2.ensures)).1, sym c.refs_in_range.ensures ∙ not-false _ c.if-not-refs_in_range.false, c.variables_in_range.ensures)
+returns c = rw (sym (process_here c.args.p.now c.requires.1), (locality_read _ _ (sym c.in-Locality.is ∙ c.of_byte.ensures)).1, (node_read _ _ (sym c.in-Node.is ∙ c.of_byte-2.ensures)).1, sym c.refs_in_range.ensures ∙ c.if-not-refs_in_range.false, c.variables_in_range.ensures)

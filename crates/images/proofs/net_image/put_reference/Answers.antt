@@ -10,17 +10,17 @@ use Rattle.images.proofs.net_image.put_reference.Goals as goal
 
 pub returns-then-not-is_key : goal.returns-then-not-is_key
 unfolding reference_put
-returns-then-not-is_key c = rw (sym c.is_key.ensures ∙ not-true _ c.if-not-is_key.true)
+returns-then-not-is_key c = rw (sym c.is_key.ensures ∙ c.if-not-is_key.true)
 
 pub slice_bounds-set_reference-end : goal.slice_bounds-set_reference-end
 slice_bounds-set_reference-end c =
-    omega (arith, ltb-true c.args.k.0 64 (sym c.is_key.ensures ∙ not-false _ c.if-not-is_key.false), c.requires.0)
+    omega (arith, ltb-true c.args.k.0 64 (sym c.is_key.ensures ∙ c.if-not-is_key.false), c.requires.0)
 
 pub returns : goal.returns
 unfolding reference_put
 returns c =
     let at = 16 + 56 * c.args.k.0 in
     let b = c.args.b.now in
-    rw (sym c.is_key.ensures ∙ not-false _ c.if-not-is_key.false)
+    rw (sym c.is_key.ensures ∙ c.if-not-is_key.false)
     (ap₂ (λ (k : ℕ) (y : List ℕ). put at k b y) (part_size at 56)
     (c.set_reference.ensures ∙ ap (λ (k : ℕ). reference_set c.args.i.0 c.args.e (take k (drop at b))) (part_size at 56)))

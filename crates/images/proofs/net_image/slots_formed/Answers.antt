@@ -19,14 +19,14 @@ unfolding slots_formed
 returns-then-not-slot_formed c =
     let b = c.args.b.now in
     let at = 16 + 56 * c.loop-i.i in
-    let e = ap slot_formed (sym (ap (λ (k : ℕ). take k (drop at b)) (part_size at 56))) ∙ sym c.slot_formed.ensures ∙ not-true _ c.if-not-slot_formed.true in
+    let e = ap slot_formed (sym (ap (λ (k : ℕ). take k (drop at b)) (part_size at 56))) ∙ sym c.slot_formed.ensures ∙ c.if-not-slot_formed.true in
     sym (all_not 64 _ c.loop-i.i c.loop-i-test.true e)
 
 pub loop-i-preserved : goal.loop-i-preserved
 loop-i-preserved c =
     let b = c.args.b.now in
     let at = 16 + 56 * c.loop-i.i in
-    let e = ap slot_formed (sym (ap (λ (k : ℕ). take k (drop at b)) (part_size at 56))) ∙ sym c.slot_formed.ensures ∙ not-false _ c.if-not-slot_formed.false in
+    let e = ap slot_formed (sym (ap (λ (k : ℕ). take k (drop at b)) (part_size at 56))) ∙ sym c.slot_formed.ensures ∙ c.if-not-slot_formed.false in
     (search rules, below_more _ _ c.loop-i.invariant.1 e)
 
 pub returns : goal.returns

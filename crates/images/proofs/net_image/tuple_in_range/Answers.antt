@@ -14,10 +14,10 @@ pub returns-then-count-gt-LIMIT : goal.returns-then-count-gt-LIMIT
 returns-then-count-gt-LIMIT c = rw (sym (tuple_here c.args.p.now c.requires.1), (locality_read _ _ (sym c.in-Locality.is ∙ c.of_byte.ensures)).1, le-leb _ _ c.if-count-lt1.false, lt-leb _ _ c.if-count-gt-LIMIT.true)
 
 pub returns-then-not-makes_only : goal.returns-then-not-makes_only
-returns-then-not-makes_only c = rw (sym (tuple_here c.args.p.now c.requires.1), (locality_read _ _ (sym c.in-Locality.is ∙ c.of_byte.ensures)).1, le-leb _ _ c.if-count-lt1.false, le-leb _ _ c.if-count-gt-LIMIT.false, sym c.makes_only.ensures ∙ not-true _ c.if-not-makes_only.true)
+returns-then-not-makes_only c = rw (sym (tuple_here c.args.p.now c.requires.1), (locality_read _ _ (sym c.in-Locality.is ∙ c.of_byte.ensures)).1, le-leb _ _ c.if-count-lt1.false, le-leb _ _ c.if-count-gt-LIMIT.false, sym c.makes_only.ensures ∙ c.if-not-makes_only.true)
 
 pub returns-then-not-refers_only : goal.returns-then-not-refers_only
-returns-then-not-refers_only c = rw (sym (tuple_here c.args.p.now c.requires.1), (locality_read _ _ (sym c.in-Locality.is ∙ c.of_byte.ensures)).1, le-leb _ _ c.if-count-lt1.false, le-leb _ _ c.if-count-gt-LIMIT.false, sym c.makes_only.ensures ∙ not-false _ c.if-not-makes_only.false, sym c.refers_only.ensures ∙ not-true _ c.if-not-refers_only.true)
+returns-then-not-refers_only c = rw (sym (tuple_here c.args.p.now c.requires.1), (locality_read _ _ (sym c.in-Locality.is ∙ c.of_byte.ensures)).1, le-leb _ _ c.if-count-lt1.false, le-leb _ _ c.if-count-gt-LIMIT.false, sym c.makes_only.ensures ∙ c.if-not-makes_only.false, sym c.refers_only.ensures ∙ c.if-not-refers_only.true)
 
 pub returns : goal.returns
-returns c = rw (sym (tuple_here c.args.p.now c.requires.1), (locality_read _ _ (sym c.in-Locality.is ∙ c.of_byte.ensures)).1, le-leb _ _ c.if-count-lt1.false, le-leb _ _ c.if-count-gt-LIMIT.false, sym c.makes_only.ensures ∙ not-false _ c.if-not-makes_only.false, sym c.refers_only.ensures ∙ not-false _ c.if-not-refers_only.false, c.data_fill.ensures)
+returns c = rw (sym (tuple_here c.args.p.now c.requires.1), (locality_read _ _ (sym c.in-Locality.is ∙ c.of_byte.ensures)).1, le-leb _ _ c.if-count-lt1.false, le-leb _ _ c.if-count-gt-LIMIT.false, sym c.makes_only.ensures ∙ c.if-not-makes_only.false, sym c.refers_only.ensures ∙ c.if-not-refers_only.false, c.data_fill.ensures)

@@ -15,12 +15,12 @@ loop-j-init c = (search rules, below_none _)
 
 pub returns-then-not-is_datum : goal.returns-then-not-is_datum
 returns-then-not-is_datum c =
-    let e = ap is_datum (sym c.datum_of-d.ensures) ∙ sym c.is_datum.ensures ∙ not-true _ c.if-not-is_datum.true in
+    let e = ap is_datum (sym c.datum_of-d.ensures) ∙ sym c.is_datum.ensures ∙ c.if-not-is_datum.true in
     sym (all_not 8 _ c.loop-j.j c.loop-j-test.true e) ∙ variables_here c.args.p.now
 
 pub loop-j-preserved : goal.loop-j-preserved
 loop-j-preserved c =
-    let e = ap is_datum (sym c.datum_of-d.ensures) ∙ sym c.is_datum.ensures ∙ not-false _ c.if-not-is_datum.false in
+    let e = ap is_datum (sym c.datum_of-d.ensures) ∙ sym c.is_datum.ensures ∙ c.if-not-is_datum.false in
     (search rules, below_more _ _ c.loop-j.invariant.1 e)
 
 pub returns : goal.returns

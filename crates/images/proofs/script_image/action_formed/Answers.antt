@@ -9,8 +9,8 @@ returns-then-is_nil c = sym (c.is_nil.ensures c.if-is_nil.true)
 
 pub returns-then-not-rest_is_zero : goal.returns-then-not-rest_is_zero
 unfolding action_formed
-returns-then-not-rest_is_zero c = rw (sym c.rest_is_zero.ensures ∙ not-true _ c.if-not-rest_is_zero.true)
+returns-then-not-rest_is_zero c = rw (sym c.rest_is_zero.ensures ∙ c.if-not-rest_is_zero.true)
 
 pub returns : goal.returns
 unfolding action_formed
-returns c = rw (sym c.rest_is_zero.ensures ∙ not-false _ c.if-not-rest_is_zero.false) (c.action_in_range.ensures ∙ ap action_in_range c.action_of-a.ensures)
+returns c = rw (sym c.rest_is_zero.ensures ∙ c.if-not-rest_is_zero.false) (c.action_in_range.ensures ∙ ap action_in_range c.action_of-a.ensures)

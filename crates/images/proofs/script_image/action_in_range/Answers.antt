@@ -15,7 +15,7 @@ unfolding action_in_range
 returns-then-not-places_in_row c =
     rw (
       lt-ltb _ _ c.if-a-ge-KINDS.false,
-      ap (λ (r : Row). places_in_row r c.args.a) (sym c.row_of-r.ensures) ∙ sym c.places_in_row.ensures ∙ not-true _ c.if-not-places_in_row.true,
+      ap (λ (r : Row). places_in_row r c.args.a) (sym c.row_of-r.ensures) ∙ sym c.places_in_row.ensures ∙ c.if-not-places_in_row.true,
     )
 
 pub returns : goal.returns
@@ -23,7 +23,7 @@ unfolding action_in_range
 returns c =
     rw (
       lt-ltb _ _ c.if-a-ge-KINDS.false,
-      ap (λ (r : Row). places_in_row r c.args.a) (sym c.row_of-r.ensures) ∙ sym c.places_in_row.ensures ∙ not-false _ c.if-not-places_in_row.false,
+      ap (λ (r : Row). places_in_row r c.args.a) (sym c.row_of-r.ensures) ∙ sym c.places_in_row.ensures ∙ c.if-not-places_in_row.false,
       c.fields_in_row.ensures,
       c.row_of-r.ensures,
     )

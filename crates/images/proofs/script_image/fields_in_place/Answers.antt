@@ -15,11 +15,11 @@ loop-j-init c = (search rules, below_none _)
 pub returns-then-not-field_in_place : goal.returns-then-not-field_in_place
 unfolding fields_in_place
 returns-then-not-field_in_place c =
-    sym (all_not 4 _ c.loop-j.j c.loop-j-test.true (sym c.field_in_place.ensures ∙ not-true _ c.if-not-field_in_place.true))
+    sym (all_not 4 _ c.loop-j.j c.loop-j-test.true (sym c.field_in_place.ensures ∙ c.if-not-field_in_place.true))
 
 pub loop-j-preserved : goal.loop-j-preserved
 loop-j-preserved c =
-    (search rules, below_more _ _ c.loop-j.invariant.1 (sym c.field_in_place.ensures ∙ not-false _ c.if-not-field_in_place.false))
+    (search rules, below_more _ _ c.loop-j.invariant.1 (sym c.field_in_place.ensures ∙ c.if-not-field_in_place.false))
 
 pub returns : goal.returns
 unfolding fields_in_place

@@ -15,11 +15,11 @@ loop-j-init c = (search rules, below_none _)
 pub returns-then-not-fresh_formal : goal.returns-then-not-fresh_formal
 unfolding formals_distinct
 returns-then-not-fresh_formal c =
-    sym (all_not 4 _ c.loop-j.j c.loop-j-test.true (sym c.fresh_formal.ensures ∙ not-true _ c.if-not-fresh_formal.true))
+    sym (all_not 4 _ c.loop-j.j c.loop-j-test.true (sym c.fresh_formal.ensures ∙ c.if-not-fresh_formal.true))
 
 pub loop-j-preserved : goal.loop-j-preserved
 loop-j-preserved c =
-    (search rules, below_more _ _ c.loop-j.invariant.1 (sym c.fresh_formal.ensures ∙ not-false _ c.if-not-fresh_formal.false))
+    (search rules, below_more _ _ c.loop-j.invariant.1 (sym c.fresh_formal.ensures ∙ c.if-not-fresh_formal.false))
 
 pub returns : goal.returns
 unfolding formals_distinct

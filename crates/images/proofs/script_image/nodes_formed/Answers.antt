@@ -19,14 +19,14 @@ unfolding nodes_formed
 returns-then-not-action_formed c =
     let b = c.args.b.now in
     let at = 16 + 32 * c.loop-i.i in
-    let e = ap action_formed (sym (ap (λ (k : ℕ). take k (drop at b)) (part_size at 32))) ∙ sym c.action_formed.ensures ∙ not-true _ c.if-not-action_formed.true in
+    let e = ap action_formed (sym (ap (λ (k : ℕ). take k (drop at b)) (part_size at 32))) ∙ sym c.action_formed.ensures ∙ c.if-not-action_formed.true in
     sym (all_not 64 _ c.loop-i.i c.loop-i-test.true e)
 
 pub loop-i-preserved : goal.loop-i-preserved
 loop-i-preserved c =
     let b = c.args.b.now in
     let at = 16 + 32 * c.loop-i.i in
-    let e = ap action_formed (sym (ap (λ (k : ℕ). take k (drop at b)) (part_size at 32))) ∙ sym c.action_formed.ensures ∙ not-false _ c.if-not-action_formed.false in
+    let e = ap action_formed (sym (ap (λ (k : ℕ). take k (drop at b)) (part_size at 32))) ∙ sym c.action_formed.ensures ∙ c.if-not-action_formed.false in
     (search rules, below_more _ _ c.loop-i.invariant.1 e)
 
 pub returns : goal.returns

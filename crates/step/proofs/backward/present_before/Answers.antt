@@ -9,11 +9,11 @@ returns-then-kind-ne-NEWLOC c = rw (ne_eqb _ _ c.if-kind-ne-NEWLOC.true)
 
 pub returns-then-not-is_locality : goal.returns-then-not-is_locality
 unfolding present_before
-returns-then-not-is_locality c = rw (eq-eqb _ _ c.if-kind-ne-NEWLOC.false, sym c.is_locality.ensures ∙ not-true _ c.if-not-is_locality.true)
+returns-then-not-is_locality c = rw (eq-eqb _ _ c.if-kind-ne-NEWLOC.false, sym c.is_locality.ensures ∙ c.if-not-is_locality.true)
 
 pub without-requires : goal.without-requires
-without-requires c = ltb-true _ 32 (sym c.is_locality.ensures ∙ not-false _ c.if-not-is_locality.false)
+without-requires c = ltb-true _ 32 (sym c.is_locality.ensures ∙ c.if-not-is_locality.false)
 
 pub returns : goal.returns
 unfolding present_before
-returns c = rw (eq-eqb _ _ c.if-kind-ne-NEWLOC.false, sym c.is_locality.ensures ∙ not-false _ c.if-not-is_locality.false, c.without.ensures)
+returns c = rw (eq-eqb _ _ c.if-kind-ne-NEWLOC.false, sym c.is_locality.ensures ∙ c.if-not-is_locality.false, c.without.ensures)

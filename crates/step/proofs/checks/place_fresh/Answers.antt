@@ -11,11 +11,11 @@ returns-then-kind-ne-NEWLOC c = rw (ne_eqb _ _ c.if-kind-ne-NEWLOC.true)
 
 pub returns-then-not-is_makeable : goal.returns-then-not-is_makeable
 unfolding place_fresh
-returns-then-not-is_makeable c = rw (eq-eqb _ _ c.if-kind-ne-NEWLOC.false, sym c.is_makeable.ensures ∙ not-true _ c.if-not-is_makeable.true)
+returns-then-not-is_makeable c = rw (eq-eqb _ _ c.if-kind-ne-NEWLOC.false, sym c.is_makeable.ensures ∙ c.if-not-is_makeable.true)
 
 pub has-requires : goal.has-requires
-has-requires c = ltb-true _ 32 (and_right (leb 8 c.args.l.0) _ (sym c.is_makeable.ensures ∙ not-false _ c.if-not-is_makeable.false))
+has-requires c = ltb-true _ 32 (and_right (leb 8 c.args.l.0) _ (sym c.is_makeable.ensures ∙ c.if-not-is_makeable.false))
 
 pub returns : goal.returns
 unfolding place_fresh
-returns c = rw (eq-eqb _ _ c.if-kind-ne-NEWLOC.false, sym c.is_makeable.ensures ∙ not-false _ c.if-not-is_makeable.false, c.has.ensures)
+returns c = rw (eq-eqb _ _ c.if-kind-ne-NEWLOC.false, sym c.is_makeable.ensures ∙ c.if-not-is_makeable.false, c.has.ensures)

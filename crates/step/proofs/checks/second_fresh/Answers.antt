@@ -5,12 +5,12 @@ use Rattle.step.proofs.checks.second_fresh.Goals as goal
 
 pub returns-then-not-makes_second : goal.returns-then-not-makes_second
 unfolding second_fresh
-returns-then-not-makes_second c = rw (sym c.makes_second.ensures ∙ not-true _ c.if-not-makes_second.true)
+returns-then-not-makes_second c = rw (sym c.makes_second.ensures ∙ c.if-not-makes_second.true)
 
 pub returns-then-not-free : goal.returns-then-not-free
 unfolding second_fresh
-returns-then-not-free c = rw (sym c.makes_second.ensures ∙ not-false _ c.if-not-makes_second.false, not-true c.args.free c.if-not-free.true)
+returns-then-not-free c = rw (sym c.makes_second.ensures ∙ c.if-not-makes_second.false, c.if-not-free.true)
 
 pub returns : goal.returns
 unfolding second_fresh
-returns c = rw (sym c.makes_second.ensures ∙ not-false _ c.if-not-makes_second.false, not-false c.args.free c.if-not-free.false)
+returns c = rw (sym c.makes_second.ensures ∙ c.if-not-makes_second.false, c.if-not-free.false)

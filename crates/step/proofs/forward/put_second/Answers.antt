@@ -15,7 +15,7 @@ use Rattle.step.proofs.forward.put_second.Goals as goal
 
 pub returns-then-not-makes_second : goal.returns-then-not-makes_second
 unfolding second_put
-returns-then-not-makes_second c = rw (sym (ap (λ (z : Action). makes_second z.kind) c.action_of-a.ensures) ∙ sym c.makes_second.ensures ∙ not-true _ c.if-not-makes_second.true) (sym (puts_nothing c.args.net.now))
+returns-then-not-makes_second c = rw (sym (ap (λ (z : Action). makes_second z.kind) c.action_of-a.ensures) ∙ sym c.makes_second.ensures ∙ c.if-not-makes_second.true) (sym (puts_nothing c.args.net.now))
 
 pub tuple_at-tuple-requires : goal.tuple_at-tuple-requires
 tuple_at-tuple-requires c = (shaped_own_action c.action_of-a.result _ c.action_of-a.type-inv).fields
@@ -27,7 +27,7 @@ pub returns-then-a-eq-OUT : goal.returns-then-a-eq-OUT
 unfolding second_put
 returns-then-a-eq-OUT c =
     let g = c.args in
-    rw (sym (ap (λ (z : Action). makes_second z.kind) c.action_of-a.ensures) ∙ sym c.makes_second.ensures ∙ not-false _ c.if-not-makes_second.false)
+    rw (sym (ap (λ (z : Action). makes_second z.kind) c.action_of-a.ensures) ∙ sym c.makes_second.ensures ∙ c.if-not-makes_second.false)
     (c.put_slot.ensures ∙
     ap (λ (z : Slot). slot_put g.r.second z g.net.now)
     (c.tuple_at-tuple.ensures ∙ (λ i. tuple_of (c.action_of-a.ensures i) (c.slot_in-x.ensures i).contents g.at) ∙ tuple_second (action_of g.node.now) (slot_with (net_of g.net.now) g.r.key) g.at (sym (ap (λ (z : Action). is_out z.kind) c.action_of-a.ensures) ∙ eq-eqb _ 1 c.if-a-eq-OUT.true)))
@@ -39,7 +39,7 @@ pub returns : goal.returns
 unfolding second_put
 returns c =
     let g = c.args in
-    rw (sym (ap (λ (z : Action). makes_second z.kind) c.action_of-a.ensures) ∙ sym c.makes_second.ensures ∙ not-false _ c.if-not-makes_second.false)
+    rw (sym (ap (λ (z : Action). makes_second z.kind) c.action_of-a.ensures) ∙ sym c.makes_second.ensures ∙ c.if-not-makes_second.false)
     (c.put_slot-2.ensures ∙
     ap (λ (z : Slot). slot_put g.r.second z g.net.now)
     (c.process_made-process.ensures ∙ (λ i. process_at (c.action_of-a.ensures i) (body_of (c.slot_in-x.ensures i)) g.at) ∙ process_second (action_of g.node.now) (slot_with (net_of g.net.now) g.r.key) g.at (sym (ap (λ (z : Action). is_out z.kind) c.action_of-a.ensures) ∙ ne_eqb _ 1 c.if-a-eq-OUT.false)))
