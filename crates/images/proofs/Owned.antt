@@ -7,7 +7,7 @@ use Prim.Native.Nat.{ℕ, ◌<◌}
 use lib.ListN.{length, get_or}
 use mir.Val.{Val}
 use denote.Shadow.{shadow}
-use Rattle.laws.proofs.Owned.{each_at, array_length}
+use Rattle.laws.proofs.Owned.{each_own, length_own}
 use Rattle.names.specs.Names.{key_count, node_count}
 use Rattle.names.specs.contracts.Key as key
 use Rattle.images.specs.Script.{field0, action0, field_at, action_at}
@@ -33,12 +33,12 @@ within xs k i e l = subst (λ (m : ℕ). i < m) (sym e) l
 shaped_action : (a : Action) (vs : List Val) → shadow ((action.the_field).row.own_val ((action.the_field).into a) vs) → ShapedAction a
 shaped_action a vs p =
     let f = p.1.1.1.1.1.1.1.1.0 in
-    let e : length a.fields ≡ 4 = array_length field.the_field 4 a.fields _ f in
+    let e : length a.fields ≡ 4 = length_own field.the_row 4 a.fields _ f in
     record {
       fields = e;
       numbers =
           λ j l.
-          let q = each_at field.the_field a.fields _ f.1.1 j field0 (within a.fields 4 j e l) in
+          let q = each_own field.the_row a.fields _ f.1.1 j field0 (within a.fields 4 j e l) in
           q.1.1.1.1.0.1;
     }
 
@@ -49,25 +49,25 @@ shaped_own_action a vs p = shaped_action a vs p
 pub shaped_script : (s : Script) (vs : List Val) → shadow ((script.the_row).own_val s vs) → ShapedScript s
 shaped_script s vs p =
     let a = p.1.1.0 in
-    let e : length s.nodes ≡ node_count = array_length action.the_field 64 s.nodes _ a in
+    let e : length s.nodes ≡ node_count = length_own action.the_row 64 s.nodes _ a in
     record {
       nodes = e;
       at =
           λ i l.
-          let q = each_at action.the_field s.nodes _ a.1.1 i action0 (within s.nodes node_count i e l) in
+          let q = each_own action.the_row s.nodes _ a.1.1 i action0 (within s.nodes node_count i e l) in
           shaped_action (action_at s i) q.0 q.1;
     }
 
 shaped_slot : (s : Slot) (vs : List Val) → shadow ((slot.the_field).row.own_val ((slot.the_field).into s) vs) → ShapedSlot s
 shaped_slot s vs p =
     let c = p.1.1.1.1.1.1.1.1.1.1.0 in
-    let e : length s.contents ≡ 8 = array_length datum.the_field 8 s.contents _ c in
+    let e : length s.contents ≡ 8 = length_own datum.the_row 8 s.contents _ c in
     record {
       contents = e;
-      refs = array_length key.the_field 4 s.refs _ p.1.1.1.1.1.1.1.1.1.1.1.0;
+      refs = length_own key.the_row 4 s.refs _ p.1.1.1.1.1.1.1.1.1.1.1.0;
       numbers =
           λ j l.
-          let q = each_at datum.the_field s.contents _ c.1.1 j datum0 (within s.contents 8 j e l) in
+          let q = each_own datum.the_row s.contents _ c.1.1 j datum0 (within s.contents 8 j e l) in
           q.1.1.1.1.0.1;
     }
 
@@ -77,12 +77,12 @@ shaped_own_slot s vs p = shaped_slot s vs p
 pub shaped_net : (n : Net) (vs : List Val) → shadow ((net.the_row).own_val n vs) → ShapedNet n
 shaped_net n vs p =
     let a = p.1.1.1.0 in
-    let e : length n.slots ≡ key_count = array_length slot.the_field 64 n.slots _ a in
+    let e : length n.slots ≡ key_count = length_own slot.the_row 64 n.slots _ a in
     record {
       present = p.1.1.0.1.1.0.1;
       slots = e;
       at =
           λ i l.
-          let q = each_at slot.the_field n.slots _ a.1.1 i slot0 (within n.slots key_count i e l) in
+          let q = each_own slot.the_row n.slots _ a.1.1 i slot0 (within n.slots key_count i e l) in
           shaped_slot (slot_at n i) q.0 q.1;
     }

@@ -20,7 +20,10 @@ slice_bounds-write_around-end c =
 pub write_around-requires : goal.write_around-requires
 write_around-requires c =
     let there = slot_lent c.args.d.now c.args.k (sym c.is_key.ensures ∙ c.if-not-is_key.false) in
-    (search rules, (c.requires.contents_value.0 ∙ ap (λ (x : Slot). x.contents) there, c.requires.contents_value.1 ∙ ap (λ (x : Slot). x.refs) there))
+    record {
+      slot_sized = search rules;
+      contents_value = (c.requires.contents_value.0 ∙ ap (λ (x : Slot). x.contents) there, c.requires.contents_value.1 ∙ ap (λ (x : Slot). x.refs) there);
+    }
 
 pub returns : goal.returns
 unfolding slot_put

@@ -12,7 +12,7 @@ use Rattle.images.proofs.net_image.write_image.Goals as goal
 
 pub loop-i-init : goal.loop-i-init
 loop-i-init c =
-    let n = c.args.t1 in
+    let n = c.args.n in
     let h = length_head 78 n.present.0 in (
       search rules,
       length_first 16 c.args.d.now _ _ (omega (arith, c.requires)) c.write_head.ensures h ∙ c.requires,
@@ -22,7 +22,7 @@ loop-i-init c =
 pub loop-i-preserved : goal.loop-i-preserved
 loop-i-preserved c =
     let l = c.loop-i in
-    let n = c.args.t1 in
+    let n = c.args.n in
     let at = 16 + 56 * l.i in
     let h : at + 56 ≤ length l.d = omega (arith, l.invariant.1) in
     let e : 16 + 56 * (l.i + 1) ≡ at + 56 = omega arith in (

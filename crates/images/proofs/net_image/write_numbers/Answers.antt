@@ -18,13 +18,13 @@ loop-j-init c = (search rules, search rules, refl)
 pub loop-j-preserved : goal.loop-j-preserved
 loop-j-preserved c =
     let l = c.loop-j in
-    let x = (get_or c.args.t1 l.j datum0).number in
+    let x = (get_or c.args.contents l.j datum0).number in
     let h : 4 * l.j + 4 ≤ length l.p = omega (arith, l.invariant.1) in
     let e : 4 * (l.j + 1) ≡ 4 * l.j + 4 = omega arith in (
       search rules,
       length_turn (4 * l.j) 4 l.p _ _ h c.write_word.ensures (length_bytes 4 x) ∙ l.invariant.1,
       rw e
-          (front_turn (4 * l.j) 4 l.j (λ i. word (get_or c.args.t1 i datum0).number) [] l.p _ h (length_bytes 4 x)
+          (front_turn (4 * l.j) 4 l.j (λ i. word (get_or c.args.contents i datum0).number) [] l.p _ h (length_bytes 4 x)
           c.write_word.ensures l.invariant.2),
     )
 
