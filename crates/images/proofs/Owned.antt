@@ -4,19 +4,17 @@
 use mathlib.Core.Path.{◌≡◌, subst, sym}
 use mathlib.Core.List.{List}
 use Prim.Native.Nat.{ℕ, ◌<◌}
-use lib.ListN.{length, get_or}
+use lib.ListN.{length}
 use mir.Val.{Val}
 use denote.Shadow.{shadow}
 use Rattle.laws.proofs.Owned.{each_own, length_own}
 use Rattle.names.specs.Names.{key_count, node_count}
 use Rattle.names.specs.contracts.Key as key
-use Rattle.images.specs.Script.{field0, action0, field_at, action_at}
-use Rattle.images.specs.Net.{datum0, slot0, datum_at, slot_at}
-use Rattle.images.specs.Shape.{Word, ShapedAction, ShapedScript, ShapedSlot, ShapedNet}
-use Rattle.images.specs.declared.Field.{Field}
+use Rattle.images.specs.Script.{field0, action0, action_at}
+use Rattle.images.specs.Net.{datum0, slot0, slot_at}
+use Rattle.images.specs.Shape.{ShapedAction, ShapedScript, ShapedSlot, ShapedNet}
 use Rattle.images.specs.declared.Action.{Action}
 use Rattle.images.specs.declared.Script.{Script}
-use Rattle.images.specs.declared.Datum.{Datum}
 use Rattle.images.specs.declared.Slot.{Slot}
 use Rattle.images.specs.declared.Net.{Net}
 use Rattle.images.specs.contracts.Field as field

@@ -5,13 +5,13 @@
 use Prim.Native.Nat.{ℕ, ◌+◌, ◌-◌, ◌*◌, ◌<◌, ◌≤◌}
 use Rattle.std.specs.Prelude.{◌≡◌, ◌⊎◌, ◌≢◌, true, ltb, length, get_or, take, drop}
 use Rattle.std.proofs.Math.Path.{refl, ap, sym}
-use Rattle.std.proofs.Common.{ap₂, ◌∙◌, ⊎_elim, arith, length-drop, length-append, take-append-drop, length-take-le, take_at, drop_at, drop-drop, get_or-take, get_or-drop}
+use Rattle.std.proofs.Common.{ap₂, ◌∙◌, ⊎_elim, arith, length-drop, length-append, take-append-drop, length-take-le, drop-drop, get_or-take, get_or-drop}
 use Rattle.std.proofs.Math.Logic.{inl, inr}
 use mathlib.Core.List.{List, [], ◌∷◌, ◌++◌, append_assoc}
 use Rattle.std.proofs.lemmas.List.{take-append-le, drop-append-le}
 use Rattle.std.proofs.Math.Seq.{drop-append-add}
 use borrow.Author.Tests.{ltb-true, ltb-false}
-use Rattle.laws.specs.Choice.{pick, cases}
+use Rattle.laws.specs.Choice.{cases}
 use Rattle.laws.specs.Lists.{tab, tab_of}
 use Rattle.laws.specs.Parts.{flat, put}
 use Rattle.laws.specs.Words.{number, bytes_of, word_at}
@@ -19,7 +19,7 @@ use Rattle.names.specs.Names.{key_count, key}
 use Rattle.names.specs.Localities.{localities}
 use Rattle.names.specs.declared.Key.{Key}
 use Rattle.images.specs.Head.{byte, part_at, pair_bytes}
-use Rattle.images.specs.Net.{datum0, datum_at, ref_at, slot_at, slot_with, first_bytes, slot_bytes}
+use Rattle.images.specs.Net.{datum0, datum_at, ref_at, slot_with, first_bytes, slot_bytes}
 use Rattle.images.specs.Read.{datum_of, slot_of, net_of}
 use Rattle.images.specs.InPlace.{slot_put, slot_part}
 use Rattle.images.specs.Changed.{part_there, below_four}
@@ -28,7 +28,6 @@ use Rattle.images.specs.Layout.{length_slot}
 use Rattle.images.specs.Shape.{ShapedSlot}
 use Rattle.images.specs.Sizes.{Sized}
 use Rattle.images.specs.declared.Slot.{Slot}
-use Rattle.images.specs.declared.Net.{Net}
 
 -- a byte of the slot with a key
 pub slot_byte_lem : (b : List ℕ) (k : Key) → ltb k.0 key_count ≡ true → (i : ℕ) → i < 56 → byte (part_at 56 b k.0) i ≡ get_or b (16 + 56 * k.0 + i) 0

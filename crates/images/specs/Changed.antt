@@ -3,15 +3,15 @@
 -- `reference_set_lem`); the bytes of a net (`variable_put`, `reference_put`), as many as before (`length_variable_put`, `length_reference_put`); in the
 -- slot that was written there last (`variable_put_lem`, `reference_put_lem`).
 -- Assumes nothing.
-use Rattle.std.specs.Prelude.{ℕ, zero, suc, ◌+◌, ◌*◌, ◌<◌, ◌≤◌, ◌≡◌, true, ltb, get_or, set, take, drop}
+use Rattle.std.specs.Prelude.{ℕ, zero, suc, ◌+◌, ◌*◌, ◌<◌, ◌≤◌, ◌≡◌, ltb, get_or, set, take, drop}
 use Rattle.std.proofs.Math.Path.{refl, ap}
-use Rattle.std.proofs.Common.{ap₂, sym, ◌∙◌, subst, arith, length-drop, length-take-le, take_at, drop_at}
+use Rattle.std.proofs.Common.{ap₂, sym, ◌∙◌, arith, length-drop, length-take-le, take_at, drop_at}
 use mathlib.Core.List.{List, ◌++◌}
 use Rattle.std.proofs.Math.ListN.{length, length-set}
 use borrow.Author.Tests.{ltb-true}
 use Rattle.laws.specs.Choice.{pick, cases}
 use Rattle.laws.specs.Lists.{tab, tab_of}
-use Rattle.laws.specs.Parts.{flat, put, length_put, part_size}
+use Rattle.laws.specs.Parts.{flat, put, length_put}
 use Rattle.laws.specs.Words.{word, bytes_of, length_bytes}
 use Rattle.names.specs.Names.{key_count, key}
 use Rattle.names.specs.declared.Key.{Key}

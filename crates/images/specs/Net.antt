@@ -1,7 +1,7 @@
 -- The net image: the bytes of a net, and which nets are in range. Document 01, "Net, 3,600 bytes".
 -- Which of the nets in range are accepted is another matter, and not said here.
 -- Assumes nothing.
-use Rattle.std.specs.Prelude.{ℕ, ◌+◌, List, [], ◌∷◌, ◌++◌, Bool, true, ◌&&◌, eqb, ltb, leb, length, get_or, replicate}
+use Rattle.std.specs.Prelude.{ℕ, List, [], ◌∷◌, ◌++◌, Bool, true, ◌&&◌, eqb, ltb, leb, length, get_or, replicate}
 use Rattle.laws.specs.Choice.{pick}
 use Rattle.laws.specs.Lists.{tab}
 use Rattle.laws.specs.Checks.{all}
@@ -14,7 +14,6 @@ use Rattle.images.specs.declared.Datum.{Datum}
 use Rattle.images.specs.declared.Slot.{Slot}
 use Rattle.images.specs.declared.Net.{Net}
 use Rattle.images.specs.declared.Written.{Written}
-use Rattle.images.specs.declared.Written.TheVariants as Written
 
 -- ---- what stands where nothing does: zeros, and empty arrays
 abbrev pub datum0 : Datum

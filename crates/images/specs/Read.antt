@@ -18,7 +18,6 @@ use Rattle.images.specs.declared.Datum.{Datum}
 use Rattle.images.specs.declared.Slot.{Slot}
 use Rattle.images.specs.declared.Net.{Net}
 use Rattle.images.specs.declared.Form.{Form}
-use Rattle.images.specs.declared.Form.TheVariants as Form
 use Rattle.images.specs.declared.ScriptRead.{ScriptRead}
 use Rattle.images.specs.declared.NetRead.{NetRead}
 

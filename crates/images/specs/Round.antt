@@ -16,7 +16,7 @@ use Rattle.laws.specs.Words.{word, bytes_of, number, word_at, Bytes, length_byte
 use Rattle.images.specs.Head.{byte, head_bytes, head_formed, part_at, pair_bytes, rest_zero}
 use Rattle.images.specs.Layout.{length_head, length_action, length_slot, length_script, length_net}
 use Rattle.images.specs.Shape.{Word, ShapedAction, ShapedScript, ShapedSlot, ShapedNet}
-use Rattle.names.specs.Names.{key_count, node_count, none, key, locality, node, reference, is_locality, is_node}
+use Rattle.names.specs.Names.{key_count, node_count, none, key, node, is_locality, is_node}
 use Rattle.images.specs.Script
 use Rattle.images.specs.Script.{action_bytes, script_bytes, action_in_range, script_in_range, field_at, action_at, field0, action0}
 use Rattle.images.specs.Net

@@ -1,6 +1,7 @@
 // The two images of document 01, taken apart into values and, for the net, put together again. A value of these types may hold any
 // bytes; which are in range is said in specs/, and reading answers only those.
 #![tactic(auto)]
+
 pub mod head;
 pub mod net_image;
 pub mod script_image;

@@ -2,7 +2,7 @@
 -- In order: `all`, with what makes it true (`all_of`), false (`all_not`) and what it gives (`all_at`); `first_not`, where a test first
 -- fails (`first_at`) or never does (`first_none`).
 -- Assumes nothing.
-use Rattle.std.specs.Prelude.{◌≡◌, refl, Bool, true, false, ◌&&◌, ℕ, zero, suc, ◌+◌, ◌<◌, ◌≤◌}
+use Rattle.std.specs.Prelude.{◌≡◌, refl, Bool, true, false, ◌&&◌, ℕ, zero, suc, ◌<◌}
 use Rattle.std.proofs.Common.{ap, sym, ◌∙◌, suc-le-suc, le_of_suc-le-suc, not-suc-le-zero, arith}
 use Rattle.laws.specs.Choice.{pick, cases, clash, and_left, and_right, and_both}
 

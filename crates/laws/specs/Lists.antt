@@ -6,8 +6,8 @@
 -- Assumes nothing.
 use Rattle.std.specs.Prelude.{◌≡◌, List, [], ◌∷◌, ◌++◌, length, get_or, set, take, drop}
 use Rattle.std.proofs.Math.Path.{refl, ap, ap₂}
-use Rattle.std.proofs.Common.{sym, ◌∙◌, subst, append-nil, add-zero, zero-add, suc-add, add-suc, le_of_suc-le-suc, not-suc-le-zero, le_refl, arith, length-set, length-append, length-take, length-drop, drop_of_length-le, ext_get_or, get_or-set_same, get_or-set_other, drop-cons, get_or-append-add, length-take-le, get_or-take, get_or-drop, below_more}
-use Prim.Native.Nat.{ℕ, zero, suc, ◌+◌, ◌-◌, ◌<◌, ◌≤◌, suc-le-suc}
+use Rattle.std.proofs.Common.{sym, ◌∙◌, subst, append-nil, le_of_suc-le-suc, not-suc-le-zero, arith, length-drop, drop_of_length-le, ext_get_or, get_or-set_same, get_or-set_other, get_or-append-add, length-take-le, get_or-take, get_or-drop, below_more}
+use Prim.Native.Nat.{ℕ, zero, suc, ◌+◌, ◌<◌, ◌≤◌, suc-le-suc}
 use Rattle.std.proofs.Math.ListN.{get_or-append}
 use Rattle.std.proofs.lemmas.List.Edits.{sets, sets-eq}
 

@@ -4,7 +4,7 @@
 -- members are one (`same_members`); the empty set.
 -- Not here: `bit_or` and `bit_and` by steps, shifts and bounds (`lib.Bits`), powers of two (`lib.Pow`).
 -- Assumes nothing.
-use Rattle.std.specs.Prelude.{◌≡◌, refl, Bool, true, false, ◌&&◌, ◌||◌, ◌≢◌, ℕ, zero, suc, ◌+◌, ◌-◌, ◌*◌, ◌/◌, ◌%◌, ◌^◌, ◌<◌, ◌≤◌, min, max, eqb, ltb}
+use Rattle.std.specs.Prelude.{◌≡◌, refl, Bool, true, false, ◌&&◌, ◌||◌, ◌≢◌, ℕ, zero, suc, ◌+◌, ◌-◌, ◌*◌, ◌/◌, ◌%◌, ◌^◌, ◌<◌, min, max, eqb, ltb}
 use Rattle.std.proofs.Common.{ap, sym, ◌∙◌, one-mul, mod-eq_of_lt, div-one, pow-suc, le_of_suc-le-suc, not-suc-le-zero, mul_comm, arith, pow_pos, pow-add, eqb-true, eq-eqb, ltb-true, ltb-false}
 use Rattle.std.proofs.Math.Nat.{div_self, div-eq_of_lt, zero-div, max-zero, min-zero, div-div-eq-div-mul}
 use Rattle.std.proofs.Math.Arith.{digits_mod, lt_of_le-ne}

@@ -2,8 +2,8 @@
 -- In order: `bytes_of` and `number`; each undoes the other (`number_bytes`, `bytes_number`); bytes in a part; a word is four bytes (`word`,
 -- `word_at`), read (`word_at_bytes`) and written (`word_word_at`).
 -- Assumes nothing.
-use Rattle.std.specs.Prelude.{◌≡◌, refl, List, [], ◌∷◌, ◌++◌, ℕ, zero, suc, ◌+◌, ◌*◌, ◌/◌, ◌%◌, ◌^◌, ◌<◌, ◌≤◌, length, get_or, take, drop}
-use Rattle.std.proofs.Common.{ap, ap₂, sym, ◌∙◌, suc-le-suc, pow-suc, add-zero, le_of_suc-le-suc, not-suc-le-zero, arith, length-take, length-drop, length-take-le, get_or-drop}
+use Rattle.std.specs.Prelude.{◌≡◌, refl, List, [], ◌∷◌, ℕ, zero, suc, ◌+◌, ◌*◌, ◌/◌, ◌%◌, ◌^◌, ◌<◌, ◌≤◌, length, get_or, take, drop}
+use Rattle.std.proofs.Common.{ap, ap₂, sym, ◌∙◌, pow-suc, add-zero, le_of_suc-le-suc, not-suc-le-zero, arith, length-take, length-drop, length-take-le, get_or-drop}
 use Rattle.std.proofs.Math.Nat.{pow-zero}
 use Rattle.laws.specs.Lists.{tab, tab_part}
 

@@ -1,5 +1,6 @@
 // Little-endian words: four bytes as a number. The laws beside this code are in specs/.
 #![tactic(auto)]
+
 ghost use Rattle.std.specs.Prelude.{◌≡◌, [], ◌∷◌, ℕ, ◌+◌, ◌≤◌, length};
 ghost use Rattle.laws.specs.Words.{number, word, word_at};
 

@@ -1,7 +1,7 @@
 -- Names from bytes. Document 01, "Names and images": "Keys, localities, variables and nodes are four disjoint sets of names: keys 0..63,
 -- localities 0..31, variables 0..7, nodes 0..63. There are also references 0..3, which hold keys. 255 means 'none' where said."
 -- Assumes nothing.
-use Rattle.std.specs.Prelude.{ℕ, Bool, true, false, ltb, eqb}
+use Rattle.std.specs.Prelude.{ℕ, Bool, true, ltb, eqb}
 use Rattle.laws.specs.Choice.{pick}
 use Rattle.names.specs.declared.Key.{Key}
 use Rattle.names.specs.declared.Locality.{Locality}
@@ -9,13 +9,9 @@ use Rattle.names.specs.declared.Variable.{Variable}
 use Rattle.names.specs.declared.Node.{Node}
 use Rattle.names.specs.declared.Reference.{Reference}
 use Rattle.names.specs.declared.KeyRead.{KeyRead}
-use Rattle.names.specs.declared.KeyRead.TheVariants as KeyRead
 use Rattle.names.specs.declared.LocalityRead.{LocalityRead}
-use Rattle.names.specs.declared.LocalityRead.TheVariants as LocalityRead
 use Rattle.names.specs.declared.VariableRead.{VariableRead}
-use Rattle.names.specs.declared.VariableRead.TheVariants as VariableRead
 use Rattle.names.specs.declared.NodeRead.{NodeRead}
-use Rattle.names.specs.declared.NodeRead.TheVariants as NodeRead
 
 -- ---- how many there are of each; the mark for none; the first locality that a step may make
 abbrev pub key_count : ℕ

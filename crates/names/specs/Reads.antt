@@ -10,13 +10,9 @@ use Rattle.names.specs.declared.Locality.{Locality}
 use Rattle.names.specs.declared.Variable.{Variable}
 use Rattle.names.specs.declared.Node.{Node}
 use Rattle.names.specs.declared.KeyRead.{KeyRead}
-use Rattle.names.specs.declared.KeyRead.TheVariants as KeyRead
 use Rattle.names.specs.declared.LocalityRead.{LocalityRead}
-use Rattle.names.specs.declared.LocalityRead.TheVariants as LocalityRead
 use Rattle.names.specs.declared.VariableRead.{VariableRead}
-use Rattle.names.specs.declared.VariableRead.TheVariants as VariableRead
 use Rattle.names.specs.declared.NodeRead.{NodeRead}
-use Rattle.names.specs.declared.NodeRead.TheVariants as NodeRead
 
 -- an answer of reading: a name, or a refusal; which of the two it is, and the name in it (another name stands in for a refusal's)
 pub record Reading (A R : Type 0) : Type 0 where

@@ -1,6 +1,7 @@
 // The names of document 01, "Names and images": keys, localities, variables and nodes are four disjoint sets, so each is a type of
 // its own, and nothing that takes one accepts another. References hold keys. Sets of localities are the bits of a word.
 #![tactic(auto)]
+
 ghost use Rattle.std.specs.Prelude.{◌≡◌, ◌<◌, ltb};
 ghost use Rattle.names.specs.Names.{key_count, locality_count, below_or_none, is_key, is_locality, is_node, is_reference_or_none, key_of, key_or_none, locality_of, locality_or_none, variable_of, node_of};
 ghost use Rattle.names.specs.Localities.{localities, holds, joined, parted};

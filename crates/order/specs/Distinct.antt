@@ -5,10 +5,10 @@
 -- member, one, or two has in common with a set (`row_none`, `row_one`, `row_two`).
 -- Assumes nothing.
 use Rattle.std.specs.Prelude.{◌≡◌, refl, ◌↔◌, ◌⊎◌, Bool, true, false, not, ◌&&◌, ◌||◌, ℕ, zero, suc, ◌+◌, ◌<◌, eqb}
-use Rattle.std.proofs.Common.{sym, ap, ◌∙◌, inl, inr, ⊎_elim, not-suc-le-zero, add-one, arith, eqb-true}
+use Rattle.std.proofs.Common.{sym, ap, ◌∙◌, inl, inr, not-suc-le-zero, add-one, arith, eqb-true}
 use Rattle.std.proofs.lemmas.Bool.{eqb-false, not-true}
 use Rattle.laws.specs.Choice.{cases, clash, and_left, and_right, and_both, fails, agree}
-use Rattle.order.specs.KeySets.{Set, ◌∈◌, only, empty, ◌∩◌, ◌∪◌, any, any_next, any_of, any_some, any_not, any_ext, any_only, any_more, any_empty}
+use Rattle.order.specs.KeySets.{Set, only, ◌∩◌, ◌∪◌, any, any_next, any_of, any_some, any_not, any_ext, any_only, any_more}
 
 -- what the rows 0, .., n - 1 hold
 abbrev pub gathered : ℕ → (ℕ → Set) → Set

@@ -1,8 +1,5 @@
 use mathlib.Core.Path.{◌≡◌, ◌∙◌, ap, sym}
-use mathlib.Core.Bool.{true}
-use Prim.Native.Nat.{◌-◌}
 use native.Mathlib.Omega.{arith}
-use borrow.Author.Tests.{not-true, not-false}
 use borrow.Author.Count.{below_none, below_more}
 use Rattle.laws.specs.Checks.{all_of, all_not}
 use Rattle.images.specs.Net.{field_or_blank}

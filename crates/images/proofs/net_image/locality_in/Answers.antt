@@ -2,7 +2,7 @@ use Prim.Native.Nat.{ℕ, ◌+◌}
 use mathlib.Core.Path.{ap, sym, ◌∙◌}
 use native.Mathlib.Omega.{arith}
 use lib.ListN.{get_or}
-use borrow.Author.Tests.{not-true, not-false, ltb-true}
+use borrow.Author.Tests.{ltb-true}
 use Rattle.names.specs.Names.{locality}
 use Rattle.images.specs.After.{home_byte}
 use Rattle.images.proofs.net_image.locality_in.Goals as goal

@@ -1,5 +1,4 @@
 use mathlib.Core.Path.{◌∙◌, sym}
-use borrow.Author.Tests.{not-false, not-true}
 use Rattle.names.specs.Reads.{locality_read, locality_bad, node_read, node_bad}
 use Rattle.images.specs.Formed.{process_here}
 use Rattle.images.proofs.net_image.process_in_range.Goals as goal

@@ -2,7 +2,7 @@ use mathlib.Core.Path.{ap₂, sym, ◌∙◌}
 use mathlib.Core.List.{List}
 use Prim.Native.Nat.{ℕ, ◌+◌, ◌*◌}
 use native.Mathlib.Omega.{arith}
-use borrow.Author.Tests.{not-true, not-false, ltb-true}
+use borrow.Author.Tests.{ltb-true}
 use Rattle.laws.specs.Parts.{put, part_size}
 use Rattle.images.specs.InPlace.{slot_put}
 use Rattle.images.proofs.net_image.put_slot.Goals as goal

@@ -3,7 +3,7 @@ use mathlib.Core.List.{List}
 use Prim.Native.Nat.{ℕ, ◌+◌, ◌*◌}
 use native.Mathlib.Omega.{arith}
 use lib.ListN.{take, drop}
-use borrow.Author.Tests.{not-true, not-false, ltb-true}
+use borrow.Author.Tests.{ltb-true}
 use Rattle.laws.specs.Parts.{put, part_size}
 use Rattle.images.specs.Changed.{variable_set, variable_put}
 use Rattle.images.proofs.net_image.put_variable.Goals as goal

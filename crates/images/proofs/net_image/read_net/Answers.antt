@@ -1,5 +1,4 @@
 use mathlib.Core.Path.{◌∙◌, sym}
-use borrow.Author.Tests.{not-true, not-false}
 use Rattle.images.specs.Read.{read_net}
 use Rattle.images.specs.Sizes.{net_sized}
 use Rattle.images.proofs.net_image.read_net.Goals as goal

@@ -1,10 +1,9 @@
 use Prim.Native.Nat.{ℕ, ◌+◌, ◌*◌}
-use mathlib.Core.Path.{◌≡◌, ap₂, ◌∙◌}
+use mathlib.Core.Path.{ap₂}
 use mathlib.Core.List.{List}
 use native.Mathlib.Omega.{arith}
-use lib.ListN.{length, set, length-set}
-use Rattle.laws.specs.Parts.{put, part_size, length_turn}
-use Rattle.laws.specs.Words.{word, length_bytes}
+use lib.ListN.{set, length-set}
+use Rattle.laws.specs.Parts.{put, part_size}
 use Rattle.images.proofs.net_image.set_variable.Goals as goal
 
 pub slice_bounds-write_word-end : goal.slice_bounds-write_word-end

@@ -1,5 +1,4 @@
 use mathlib.Core.Path.{◌∙◌, sym}
-use borrow.Author.Tests.{not-false, not-true}
 use Rattle.images.specs.Read.{slot_formed}
 use Rattle.images.proofs.net_image.slot_formed.Goals as goal
 

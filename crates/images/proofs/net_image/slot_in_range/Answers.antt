@@ -1,5 +1,5 @@
 use mathlib.Core.Path.{◌∙◌, sym}
-use borrow.Author.Tests.{eq-eqb, le-leb, lt-leb, ne_eqb, not-false, not-true}
+use borrow.Author.Tests.{eq-eqb, le-leb, lt-leb, ne_eqb}
 use Rattle.images.specs.Net.{slot_in_range}
 use Rattle.images.specs.Read.{slot_of}
 use Rattle.images.proofs.net_image.slot_in_range.Goals as goal

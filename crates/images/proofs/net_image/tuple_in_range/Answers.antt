@@ -1,5 +1,5 @@
 use mathlib.Core.Path.{◌∙◌, sym}
-use borrow.Author.Tests.{le-leb, lt-leb, not-false, not-true}
+use borrow.Author.Tests.{le-leb, lt-leb}
 use Rattle.names.specs.Reads.{locality_read, locality_bad}
 use Rattle.images.specs.Formed.{tuple_here}
 use Rattle.images.proofs.net_image.tuple_in_range.Goals as goal

@@ -1,5 +1,4 @@
 use mathlib.Core.Path.{◌∙◌, ap, sym}
-use borrow.Author.Tests.{not-true, not-false}
 use Rattle.images.specs.Script.{action_in_range}
 use Rattle.images.specs.Read.{action_formed}
 use Rattle.images.proofs.script_image.action_formed.Goals as goal

@@ -1,7 +1,7 @@
 use mathlib.Core.Path.{◌∙◌, ap, sym}
-use borrow.Author.Tests.{le-ltb, lt-ltb, not-false, not-true}
+use borrow.Author.Tests.{le-ltb, lt-ltb}
 use Rattle.images.specs.declared.Row.{Row}
-use Rattle.images.specs.Script.{places_in_row, fields_in_row, action_in_range}
+use Rattle.images.specs.Script.{places_in_row, action_in_range}
 use mathlib.Core.Path.{◌∙◌, sym}
 use Rattle.images.specs.Script.{action_in_range}
 use Rattle.images.proofs.script_image.action_in_range.Goals as goal

@@ -1,11 +1,8 @@
 use mathlib.Core.Path.{◌≡◌, ◌∙◌, sym}
-use mathlib.Core.Bool.{true, false}
-use Prim.Native.Nat.{◌-◌}
 use native.Mathlib.Omega.{arith}
-use borrow.Author.Tests.{not-true, not-false}
 use borrow.Author.Count.{below_none, below_more}
 use Rattle.laws.specs.Checks.{all_of, all_not}
-use Rattle.images.specs.Script.{field_in_place, fields_in_place}
+use Rattle.images.specs.Script.{fields_in_place}
 use Rattle.std.proofs.Common.{rules}
 use Rattle.images.proofs.script_image.fields_in_place.Goals as goal
 

@@ -1,5 +1,4 @@
 use mathlib.Core.Path.{◌∙◌, sym}
-use borrow.Author.Tests.{not-false, not-true}
 use Rattle.images.specs.Script.{fields_in_row}
 use Rattle.images.proofs.script_image.fields_in_row.Goals as goal
 

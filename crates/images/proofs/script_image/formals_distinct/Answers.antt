@@ -1,11 +1,8 @@
 use mathlib.Core.Path.{◌≡◌, ◌∙◌, sym}
-use mathlib.Core.Bool.{true}
-use Prim.Native.Nat.{◌-◌}
 use native.Mathlib.Omega.{arith}
-use borrow.Author.Tests.{not-true, not-false}
 use borrow.Author.Count.{below_none, below_more}
 use Rattle.laws.specs.Checks.{all_of, all_not}
-use Rattle.images.specs.Script.{fresh_formal, formals_distinct}
+use Rattle.images.specs.Script.{formals_distinct}
 use Rattle.std.proofs.Common.{rules}
 use Rattle.images.proofs.script_image.formals_distinct.Goals as goal
 

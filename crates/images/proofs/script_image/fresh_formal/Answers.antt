@@ -1,10 +1,9 @@
 use mathlib.Core.Path.{◌≡◌, ◌∙◌, sym, ap}
-use mathlib.Core.Bool.{true, false, not}
-use Prim.Native.Nat.{◌-◌}
+use mathlib.Core.Bool.{not}
 use native.Mathlib.Omega.{arith}
 use borrow.Author.Count.{below_none, below_more}
 use Rattle.laws.specs.Checks.{all_of, all_not}
-use Rattle.images.specs.Script.{same_formal, fresh_formal}
+use Rattle.images.specs.Script.{fresh_formal}
 use Rattle.std.proofs.Common.{rules}
 use Rattle.images.proofs.script_image.fresh_formal.Goals as goal
 

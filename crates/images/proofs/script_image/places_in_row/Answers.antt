@@ -1,5 +1,4 @@
 use mathlib.Core.Path.{◌∙◌, sym}
-use borrow.Author.Tests.{not-true, not-false}
 use Rattle.images.specs.Script.{places_in_row}
 use Rattle.images.proofs.script_image.places_in_row.Goals as goal
 

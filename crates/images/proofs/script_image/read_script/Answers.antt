@@ -1,5 +1,4 @@
 use mathlib.Core.Path.{◌∙◌, sym}
-use borrow.Author.Tests.{not-true, not-false}
 use Rattle.images.specs.Read.{read_script}
 use Rattle.images.specs.Sizes.{script_sized}
 use Rattle.images.proofs.script_image.read_script.Goals as goal
