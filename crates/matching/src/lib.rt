@@ -1,6 +1,7 @@
 // What a process's fields stand for, where it acts, and whether its template meets a tuple: each answers an enum of its own. The process is a
 // value, its eight variables; a node and a tuple are looked at where they stand, in their 32 and 56 bytes.
 #![tactic(auto)]
+
 ghost use Rattle.std.specs.Prelude.{◌≡◌, ◌<◌, set};
 ghost use Rattle.names.specs.Names.{variable_count};
 ghost use Rattle.images.specs.Sizes.{NodeSized, SlotSized, Sized};

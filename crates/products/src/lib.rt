@@ -1,6 +1,7 @@
 // What a step makes, by the kind of its node: a continuation, and besides it a tuple, a process or nothing. Forward steps write what
 // these functions give, and acceptance compares with it.
 #![tactic(auto)]
+
 ghost use Rattle.std.specs.Prelude.{◌≡◌, true};
 ghost use Rattle.laws.specs.Choice.{pick};
 ghost use Rattle.laws.specs.Lists.{tab};

@@ -1,5 +1,6 @@
 // What no step brings about by itself: which localities need a maker, and what a record that nobody made may be.
 #![tactic(auto)]
+
 ghost use Rattle.std.specs.Prelude.{◌≡◌};
 ghost use Rattle.products.specs.Body.{body_of};
 ghost use Rattle.rules.specs.Instance.{makeable};

@@ -53,8 +53,8 @@ loop-j-preserved c =
     let (is, below) = variable_read f.number _ (sym c.in-Variable.is ∙ c.of_number-read.ensures) in (
       omega (arith, c.loop-j-test.true),
       λ a e.
-          ap (λ (v : Variable). set l.next v.0 (get_or g.t3 l.j datum0)) is ∙
-          ap (λ (xs : List Field). set l.next (get_or xs l.j field0).number (get_or g.t3 l.j datum0)) (sym e) ∙
+          ap (λ (v : Variable). set l.next v.0 (get_or g.tuple l.j datum0)) is ∙
+          ap (λ (xs : List Field). set l.next (get_or xs l.j field0).number (get_or g.tuple l.j datum0)) (sym e) ∙
           bound_one _ a _ l.j _ (l.invariant.1 a e)
           (ap (λ (xs : List Field). binds (get_or xs l.j field0)) e ∙ and_both (is_formal f) _ (le-leb _ _ c.if-f-lt-VALUE_FORMAL.false) below),
     )
@@ -64,4 +64,4 @@ unfolding bound
 returns c =
     let l = c.loop-j in
     let e : l.j ≡ 4 = omega arith in
-    l.invariant.1 c.args.a refl ∙ ap (λ (k : ℕ). bind_up_to k c.args.vars c.args.a c.args.t3) e
+    l.invariant.1 c.args.a refl ∙ ap (λ (k : ℕ). bind_up_to k c.args.vars c.args.a c.args.tuple) e

@@ -26,11 +26,8 @@ loop-j-preserved c =
       bind_kept _ _ _ l.net _ c.bind_field.ensures l.invariant.1,
       λ a e.
           bound_step l.j a _ _ _ l.net _ (l.invariant.2 a e)
-          (c.bind_field.ensures ∙ ap (λ (xs : List Field). bind_put (get_or xs l.j field0) (get_or g.t2 l.j datum0) g.k l.net) (sym e)),
+          (c.bind_field.ensures ∙ ap (λ (xs : List Field). bind_put (get_or xs l.j field0) (get_or g.met l.j datum0) g.k l.net) (sym e)),
     )
-
--- was same_length
--- c.before.loop.invariant.1 ∙ sym c.before.before.before.before.before.before.requires.1
 
 pub returns : goal.returns
 unfolding bound_put
@@ -38,5 +35,5 @@ returns c =
     let l = c.loop-j in
     let g = c.args in
     let e : l.j ≡ 4 = omega (arith, c.loop-j-test.false) in
-    l.invariant.2 c.action_of-a.result refl ∙ ap (λ (n : ℕ). bound_up_to n c.action_of-a.result g.t2 g.k g.net.now) e ∙
-    ap (λ (a : Action). bound_up_to 4 a g.t2 g.k g.net.now) c.action_of-a.ensures
+    l.invariant.2 c.action_of-a.result refl ∙ ap (λ (n : ℕ). bound_up_to n c.action_of-a.result g.met g.k g.net.now) e ∙
+    ap (λ (a : Action). bound_up_to 4 a g.met g.k g.net.now) c.action_of-a.ensures

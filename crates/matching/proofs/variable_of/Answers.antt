@@ -18,4 +18,4 @@ bounds-vars-v c =
 pub returns : goal.returns
 returns c =
     let (is, below) = variable_read c.args.x _ (sym c.in-Variable.is ∙ c.of_number-read.ensures) in
-    rw below (ap (λ (v : Variable). get_or c.args.t1 v.0 datum0) is)
+    rw below (ap (λ (v : Variable). get_or c.args.vars v.0 datum0) is)
