@@ -3,8 +3,8 @@
 -- there last they are the variables bound (`bound_put_lem`).
 -- Assumes nothing.
 use Prim.Native.Nat.{ℕ, zero, suc, ◌+◌}
-use Rattle.std.proofs.Common.{add-one, sym, ◌∙◌, length-set, ltb-true}
-use Rattle.std.specs.Prelude.{◌≡◌, List, true, false, ltb, length, get_or, set}
+use Rattle.std.proofs.Common.{add-one, ◌∙◌, length-set, ltb-true}
+use Rattle.std.specs.Prelude.{◌≡◌, List, ltb, length, get_or}
 use Rattle.std.proofs.Math.Path.{refl, ap}
 use Rattle.laws.specs.Choice.{pick, cases}
 use Rattle.names.specs.Names.{variable_count, variable}

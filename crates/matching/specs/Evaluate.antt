@@ -1,20 +1,18 @@
 -- What a field stands for, with a process's variables as they stand, and where a process acts.
 -- Document 01, "Forward rules": "Fields are evaluated with the variables as they stand."
 -- Assumes nothing.
-use Rattle.std.specs.Prelude.{ℕ, List, ◌≡◌, Bool, true, false, ◌&&◌, ◌||◌, not, eqb, ltb, leb, get_or}
+use Rattle.std.specs.Prelude.{ℕ, List, ◌≡◌, Bool, true, false, ◌&&◌, not, eqb, ltb, leb, get_or}
 use Rattle.std.proofs.Common.{ap, sym, true≢false}
 use Rattle.laws.specs.Choice.{pick, cases}
 use Rattle.laws.specs.Checks.{all}
 use Rattle.names.specs.Names.{variable_count, locality_count, locality}
-use Rattle.images.specs.Script.{field0, field_at}
+use Rattle.images.specs.Script.{field_at}
 use Rattle.images.specs.Net.{datum0}
 use Rattle.images.specs.declared.Field.{Field}
 use Rattle.images.specs.declared.Action.{Action}
 use Rattle.images.specs.declared.Datum.{Datum}
 use Rattle.matching.specs.declared.Evaluated.{Evaluated}
-use Rattle.matching.specs.declared.Evaluated.TheVariants as Evaluated
 use Rattle.matching.specs.declared.Target.{Target}
-use Rattle.matching.specs.declared.Target.TheVariants as Target
 
 -- field tags: "1 value, 2 literal locality, 3 variable"; "4 formal for a value, 5 formal for a locality"
 abbrev pub is_variable : Field → Bool

@@ -19,7 +19,6 @@ use Rattle.images.specs.declared.Action.{Action}
 use Rattle.images.specs.declared.Datum.{Datum}
 use Rattle.matching.specs.Evaluate.{actual, is_formal}
 use Rattle.matching.specs.declared.Match.{Match}
-use Rattle.matching.specs.declared.Match.TheVariants as Match
 use Rattle.images.specs.declared.Slot.{Slot}
 
 -- one field of a template against one of a tuple

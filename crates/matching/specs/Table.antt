@@ -1,11 +1,11 @@
 -- 004, Table III, as a relation, and that the test of Match is true exactly when it holds. A field in range has a tag of 1 to 5.
 -- In order: one field (`Meets`, `field_meets_iff`); a whole template (`Matches`, `meets_iff`).
 -- Assumes nothing.
-use Rattle.std.specs.Prelude.{ℕ, ◌<◌, ◌≤◌, ◌≡◌, refl, ◌↔◌, List, Bool, true, false, ◌&&◌, eqb, ltb, get_or}
-use Rattle.std.proofs.Common.{ap, sym, ◌∙◌, arith}
-use borrow.Author.Tests.{eqb-true, eqb-false, eq-eqb, ne_eqb, lt-ltb, le-ltb, ltb-true, ltb-false}
+use Rattle.std.specs.Prelude.{ℕ, ◌<◌, ◌≤◌, ◌≡◌, ◌↔◌, List, true, eqb, ltb, get_or}
+use Rattle.std.proofs.Common.{ap, arith}
+use borrow.Author.Tests.{eqb-true, eqb-false, eq-eqb, ne_eqb, lt-ltb, ltb-true}
 use Rattle.laws.specs.Choice.{pick, cases, and_left, and_right, and_both}
-use Rattle.laws.specs.Checks.{all, all_of, all_at}
+use Rattle.laws.specs.Checks.{all_of, all_at}
 use Rattle.images.specs.Script.{field_at}
 use Rattle.images.specs.Net.{datum0}
 use Rattle.images.specs.declared.Field.{Field}

@@ -3,10 +3,10 @@
 -- In order: where a node acts (`acting_at`, `acts_at`); check 7 as an answer that carries it (`readiness`), and what that says (`ready_acts`, `unset_false`); check 8 of it
 -- (`acts_there`, `acts_target`); the second thing made there (`tuple_at`, `process_at`, `second_at`), which is the rule's (`second_acts`).
 -- Assumes nothing.
-use Rattle.std.specs.Prelude.{ℕ, ◌≡◌, List, Bool, true, false, ◌&&◌, ◌||◌, eqb, replicate}
+use Rattle.std.specs.Prelude.{ℕ, ◌≡◌, List, Bool, true, false, eqb, replicate}
 use Rattle.std.proofs.Math.Path.{refl, ap, sym}
 use Rattle.std.proofs.Common.{◌∙◌, true≢false, arith, eqb-true, ne_eqb}
-use Rattle.laws.specs.Choice.{pick, cases, clash, and_both, and_left, and_right, or_left, or_right, ◌⇒◌}
+use Rattle.laws.specs.Choice.{pick, cases, or_right}
 use Rattle.laws.specs.Lists.{tab}
 use Rattle.names.specs.Names.{reference_count, none, key, locality, node}
 use Rattle.names.specs.declared.Locality.{Locality}
@@ -17,11 +17,9 @@ use Rattle.images.specs.declared.Datum.{Datum}
 use Rattle.images.specs.declared.Slot.{Slot}
 use Rattle.matching.specs.Evaluate.{target_of, fields_ready}
 use Rattle.matching.specs.declared.Target.{Target}
-use Rattle.matching.specs.declared.Target.TheVariants as Target
 use Rattle.products.specs.Body.{Body, live_process, live_tuple}
-use Rattle.products.specs.Products.{is_out, is_eval, is_split, meets_tuple, makes_second, has_target, has_fields, number_of, is_found, target_by, ready_by, target_there, field_made, tuple_by, process_by, second_slot}
+use Rattle.products.specs.Products.{is_out, is_eval, meets_tuple, makes_second, has_target, has_fields, number_of, is_found, target_by, ready_by, target_there, field_made, tuple_by, process_by, second_slot}
 use Rattle.products.specs.declared.Readiness.{Readiness}
-use Rattle.products.specs.declared.Readiness.TheVariants as Readiness
 
 -- ---- where a node acts
 

@@ -1,7 +1,7 @@
 -- What each rule makes, worked out by hand for a small script, and held against the definitions by computing. Nothing in the theory of
 -- nets tells one set of rules from another, so these lines, the cases and the second program do.
 -- Assumes nothing.
-use Rattle.std.specs.Prelude.{ℕ, ◌-◌, ◌≡◌, refl, List, [], ◌∷◌, ◌++◌, Bool, true, false, length, replicate}
+use Rattle.std.specs.Prelude.{ℕ, ◌-◌, ◌≡◌, refl, List, [], ◌∷◌, ◌++◌, true, false, length, replicate}
 use Rattle.laws.specs.Lists.{tab}
 use Rattle.laws.specs.Checks.{all}
 use Rattle.names.specs.Names.{none, key, locality, node}
@@ -15,7 +15,7 @@ use Rattle.matching.specs.Evaluate
 use Rattle.matching.specs.Evaluate.{target_of, actual, fields_ready}
 use Rattle.matching.specs.Match.{meets, place_meets, field_meets, bound, bind_up_to, bind_one}
 use Rattle.products.specs.Body.{Body}
-use Rattle.products.specs.Products.{target, is_ready, fits, variables_after, references_after, continuation, tuple_made, process_made, second_made, continued_by, process_by, ready_by, second_by, target_by, tuple_by}
+use Rattle.products.specs.Products.{target, is_ready, fits, variables_after, references_after, continuation, second_made, continued_by, process_by, ready_by, second_by, target_by, tuple_by}
 
 -- 0 out ⟨6, locality 1, variable 0⟩@2 with reference 1; 1 in ⟨!x3, !u4⟩@variable 1 with reference 2; 2 read ⟨variable 0, locality 3⟩@2;
 -- 3 newloc variable 5 with reference 0; 4 eval 7 @variable 1 with reference 3; 5 split 8, 9; each goes on at 10

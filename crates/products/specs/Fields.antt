@@ -1,10 +1,10 @@
 -- An action has four fields, so what an out puts past them is blank.
 -- Assumes nothing.
-use Rattle.std.specs.Prelude.{ℕ, ◌≤◌, ◌≡◌, refl, List, [], ◌∷◌, Bool, ltb, length}
+use Rattle.std.specs.Prelude.{ℕ, ◌≤◌, ◌≡◌, List, [], ◌∷◌, ltb, length}
 use Rattle.std.proofs.Math.Path.{ap}
-use Rattle.std.proofs.Common.{sym, ◌∙◌, arith}
+use Rattle.std.proofs.Common.{◌∙◌, arith}
 use Rattle.std.proofs.Math.ListN.{get_or-eq_default}
-use Rattle.laws.specs.Choice.{pick, cases}
+use Rattle.laws.specs.Choice.{cases}
 use Rattle.laws.specs.Lists.{tab}
 use Rattle.images.specs.Script.{field0, field_at}
 use Rattle.images.specs.Net.{datum0}

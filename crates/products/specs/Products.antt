@@ -2,9 +2,8 @@
 -- A step makes a continuation; an out also a tuple, an eval and a split also a process; a newloc also a locality. Forward steps write these,
 -- acceptance compares what stands there with them, backward steps remove them.
 -- Assumes nothing.
-use Rattle.std.specs.Prelude.{ℕ, ◌≡◌, List, Bool, true, false, ◌&&◌, ◌||◌, not, eqb, ltb, leb, set, replicate}
-use Rattle.std.proofs.Common.{ap, arith}
-use Rattle.laws.specs.Choice.{pick, cases, ◌⇒◌}
+use Rattle.std.specs.Prelude.{ℕ, List, Bool, true, false, ◌&&◌, ◌||◌, eqb, ltb, leb, set, replicate}
+use Rattle.laws.specs.Choice.{pick, ◌⇒◌}
 use Rattle.laws.specs.Lists.{tab}
 use Rattle.names.specs.Names.{none, reference_count, key, locality, node, is_locality}
 use Rattle.names.specs.Localities.{holds}
@@ -21,10 +20,7 @@ use Rattle.images.specs.declared.Slot.{Slot}
 use Rattle.matching.specs.Evaluate.{actual, target_of, fields_ready}
 use Rattle.matching.specs.Match.{meets, bound, with_variable}
 use Rattle.matching.specs.declared.Target.{Target}
-use Rattle.matching.specs.declared.Target.TheVariants as Target
 use Rattle.products.specs.Body.{Body, live_process, live_tuple}
-use Rattle.products.specs.declared.Readiness.{Readiness}
-use Rattle.products.specs.declared.Readiness.TheVariants as Readiness
 
 -- ---- kinds: "0 nil, 1 out, 2 in, 3 read, 4 newloc, 5 eval, 6 split, 7 roll"
 -- "a past process is at kinds 1..6"

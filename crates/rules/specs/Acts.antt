@@ -1,7 +1,7 @@
 -- A kind of node as an act: each test of an act asks for the kind's number.
 -- In order: in, read, newloc and split; what a kind uses, does, aims at and makes besides.
 -- Assumes nothing.
-use Rattle.std.specs.Prelude.{ℕ, zero, suc, ◌<◌, ◌≤◌, ◌≡◌, refl, Bool, true, false, ◌&&◌, ◌||◌, eqb, ltb, leb}
+use Rattle.std.specs.Prelude.{ℕ, zero, suc, ◌≡◌, refl, Bool, true, false, ◌&&◌, ◌||◌, leb}
 use Rattle.std.proofs.Common.{ap, ap₂, sym, ◌∙◌, arith, ne_eqb}
 use Rattle.std.proofs.lemmas.Bool.{lt-leb}
 use Rattle.nets.specs.Rules.{is_take, is_read, is_newloc, is_split, acts, uses, aims, second_of, is_there}

@@ -3,21 +3,20 @@
 -- `made_process`).
 -- Assumes nothing.
 use Prim.Native.Nat.{ℕ, ◌<◌, ◌≤◌}
-use Rattle.std.specs.Prelude.{◌≡◌, ◌⊎◌, Bool, ◌&&◌, ◌||◌, not, ltb, leb, get_or, set, replicate}
+use Rattle.std.specs.Prelude.{◌≡◌, Bool, ◌&&◌, ◌||◌, ltb, leb, get_or}
 use Rattle.std.proofs.Math.Path.{refl, subst}
-use Rattle.std.proofs.Common.{ap, sym, ◌∙◌, inl, inr, ⊎_elim, arith}
+use Rattle.std.proofs.Common.{ap, sym, ⊎_elim, arith}
 use mathlib.Core.List.{List}
-use Rattle.std.proofs.Math.Bool.{true, false, or-false}
+use Rattle.std.proofs.Math.Bool.{true, false}
 use Rattle.std.proofs.Math.Dec.{eqb}
-use Rattle.std.proofs.lemmas.List.{get_or-replicate}
-use borrow.Author.Tests.{eqb-true, eqb-false, eq-eqb, ne_eqb, ltb-true, ltb-false, lt-ltb, le-ltb, le-leb, lt-leb, leb-true, not-true, not-false}
+use borrow.Author.Tests.{eqb-true, eqb-false, eq-eqb, ne_eqb, ltb-true, lt-ltb, le-leb, lt-leb, not-true}
 use Rattle.laws.specs.Choice.{pick, cases, clash, and_left, and_right, and_both}
 use Rattle.laws.specs.Lists.{tab, get_d_tab}
 use Rattle.laws.specs.Checks.{all, all_of, all_at}
-use Rattle.names.specs.Names.{key_count, node_count, locality_count, none, key, locality, node, reference_count, below_or_none, is_key_or_none, is_locality, is_node}
+use Rattle.names.specs.Names.{key_count, node_count, none, key, locality, reference_count, is_key_or_none, is_locality, is_node}
 use Rattle.names.specs.declared.Key.{Key}
 use Rattle.names.specs.declared.Locality.{Locality}
-use Rattle.images.specs.Script.{action0, action_at, field_at, field_in_place, script_in_range}
+use Rattle.images.specs.Script.{action0, field_at, script_in_range}
 use Rattle.images.specs.Net.{datum0, is_unset, is_set, is_datum, variables_in_range, field_or_blank, data_fill, made_are, refs_are, refs_in_range, process_in_range, tuple_in_range}
 use Rattle.images.specs.Shape.{ShapedScript}
 use Rattle.images.specs.declared.Field.{Field}
@@ -26,11 +25,9 @@ use Rattle.images.specs.declared.Script.{Script}
 use Rattle.images.specs.declared.Datum.{Datum}
 use Rattle.matching.specs.Evaluate.{actual, variable_of, place_of, target_of, is_variable, is_formal, fields_ready}
 use Rattle.matching.specs.Evaluate
-use Rattle.matching.specs.Match.{bound, with_variable}
-use Rattle.matching.specs.declared.Target.{Target}
 use Rattle.products.specs.Body.{Body, is_process, is_tuple}
-use Rattle.products.specs.Products.{is_step, is_out, is_newloc, is_eval, is_split, meets_tuple, has_target, has_fields, action, kind_of, target, number_of, is_found, is_ready, variables_after, references_after, continuation, tuple_made, process_made, second_made, continued_by, process_by, ready_by, target_by, tuple_by}
-use Rattle.rules.specs.Nodes.{Ranged, node_cases, target_small, field_small, count_few, next_node, other_node, out_count, out_tags}
+use Rattle.products.specs.Products.{is_step, is_out, is_newloc, is_eval, is_split, meets_tuple, has_target, action, kind_of, target, number_of, is_found, is_ready, variables_after, references_after, continuation, tuple_made, process_made, continued_by, process_by, ready_by, target_by, tuple_by}
+use Rattle.rules.specs.Nodes.{Ranged, node_cases, field_small, count_few, next_node, other_node, out_count, out_tags}
 use Rattle.rules.specs.Laws.{placed, after_bound, after_made_lem, after_same, bound_keeps, with_keeps, set_keeps}
 
 -- ---- data in range

@@ -1,12 +1,12 @@
 -- The rules of a script, as the theory of nets asks for them (`rules_of`), and that those of a script in range are lawful (`lawful_of`): what
 -- that theory proves of lawful rules it proves of every script in range.
 -- Assumes nothing.
-use Rattle.std.specs.Prelude.{ℕ, zero, suc, ◌+◌, ◌<◌, ◌≤◌, ◌≡◌, ◌⊎◌, Bool, true, false, ◌&&◌, ◌||◌, eqb, ltb, leb, replicate}
+use Rattle.std.specs.Prelude.{ℕ, zero, suc, ◌<◌, ◌≤◌, ◌≡◌, ◌⊎◌, Bool, true, false, ◌&&◌, ◌||◌, eqb, ltb, leb, replicate}
 use Rattle.std.proofs.Math.Path.{refl}
-use Rattle.std.proofs.Common.{ap, ap₂, sym, ◌∙◌, subst, ⊎_elim, arith, eqb-true, eq-eqb, ne_eqb, ltb-true, ltb-false, lt-ltb, le-ltb, leb-true, le-leb}
+use Rattle.std.proofs.Common.{ap, ap₂, sym, ◌∙◌, ⊎_elim, arith, eqb-true, ne_eqb, ltb-true, leb-true, le-leb}
 use Rattle.std.proofs.Math.Logic.{inl, inr}
-use Rattle.std.proofs.lemmas.Bool.{eqb-false, lt-leb}
-use Rattle.laws.specs.Choice.{pick, cases, clash, and_left, and_right, and_both, or_left, or_right, or_cases}
+use Rattle.std.proofs.lemmas.Bool.{lt-leb}
+use Rattle.laws.specs.Choice.{cases, and_left, and_right, and_both, or_left, or_right, or_cases}
 use Rattle.names.specs.Names.{key_count, locality_count, first_made, key, locality, node}
 use Rattle.images.specs.Script.{script_in_range}
 use Rattle.images.specs.Net.{datum0}

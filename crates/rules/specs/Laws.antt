@@ -1,24 +1,23 @@
 -- The laws of products that the theory of nets asks of its rules: what a product is, names and holds.
 -- In order: stores in a list; nodes of a script in range; the target; names; references; the form of what is made.
 -- Assumes nothing.
-use Prim.Native.Nat.{ℕ, zero, suc, ◌+◌, ◌<◌, ◌≤◌}
-use Rattle.std.specs.Prelude.{◌≡◌, ◌⊎◌, List, [], ◌∷◌, Bool, false, ◌&&◌, ◌||◌, leb, length, get_or, set, replicate}
+use Prim.Native.Nat.{ℕ, zero, suc, ◌<◌, ◌≤◌}
+use Rattle.std.specs.Prelude.{◌≡◌, ◌⊎◌, List, [], ◌∷◌, false, ◌&&◌, get_or, set, replicate}
 use Rattle.std.proofs.Math.Path.{refl, ap}
-use Rattle.std.proofs.Common.{sym, ◌∙◌, subst, ⊎_elim, arith, not-suc-le-zero}
+use Rattle.std.proofs.Common.{sym, subst, ⊎_elim, arith}
 use Rattle.std.proofs.Math.Logic.{inl, inr}
 use Rattle.std.proofs.Math.Bool.{true}
 use Rattle.std.proofs.Math.Dec.{eqb, ltb}
 use Rattle.std.proofs.lemmas.List.{get_or-replicate}
-use Rattle.std.proofs.Math.ListN.{get_or-eq_default}
-use borrow.Author.Tests.{eqb-true, eqb-false, eq-eqb, ne_eqb, ltb-true, ltb-false, lt-ltb, le-ltb, leb-true, leb-false, le-leb, lt-leb, not-true, not-false}
+use borrow.Author.Tests.{eqb-true, eq-eqb, ne_eqb, ltb-true}
 use Rattle.laws.specs.Choice.{pick, cases, clash, and_left, and_right, and_both}
-use Rattle.laws.specs.Checks.{all, all_of, all_at}
+use Rattle.laws.specs.Checks.{all, all_at}
 use Rattle.laws.specs.Lists.{tab, get_d_tab}
-use Rattle.order.specs.KeySets.{any, any_of, any_some, any_not}
-use Rattle.names.specs.Names.{key_count, node_count, first_made, none, key, locality, reference_count}
+use Rattle.order.specs.KeySets.{any_of, any_some, any_not}
+use Rattle.names.specs.Names.{key_count, key, reference_count}
 use Rattle.names.specs.declared.Key.{Key}
 use Rattle.names.specs.declared.Locality.{Locality}
-use Rattle.images.specs.Script.{action0, field0, action_at, field_at, action_in_range, script_in_range}
+use Rattle.images.specs.Script.{action0, field_at, script_in_range}
 use Rattle.images.specs.Net.{datum0, refs_are}
 use Rattle.images.specs.Shape.{ShapedScript}
 use Rattle.images.specs.declared.Field.{Field}
@@ -27,9 +26,9 @@ use Rattle.images.specs.declared.Script.{Script}
 use Rattle.images.specs.declared.Datum.{Datum}
 use Rattle.matching.specs.Evaluate.{actual, variable_of, place_of, target_of, is_variable, is_formal}
 use Rattle.matching.specs.Match.{bind_one, bind_up_to, bound, with_variable}
-use Rattle.products.specs.Body.{Body, is_process, is_tuple}
-use Rattle.products.specs.Products.{is_out, is_in, is_read, is_newloc, is_eval, is_split, meets_tuple, has_target, action, kind_of, target, number_of, variables_after, references_after, continuation, tuple_made, process_made, second_made, continued_by, process_by, second_by, target_by, tuple_by}
-use Rattle.rules.specs.Nodes.{Ranged, node_cases, target_small, field_small, count_few, next_node, other_node, split_reference, out_count, out_tags}
+use Rattle.products.specs.Body.{Body}
+use Rattle.products.specs.Products.{is_out, is_newloc, is_split, meets_tuple, action, kind_of, target, number_of, variables_after, references_after, continuation, tuple_made, process_made, second_made, continued_by, process_by, second_by, target_by, tuple_by}
+use Rattle.rules.specs.Nodes.{Ranged, node_cases, target_small, field_small, count_few, split_reference}
 use Rattle.rules.specs.Roots.{is_place, names, refers, is_home, rooted}
 
 -- ---- stores in a list

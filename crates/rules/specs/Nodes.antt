@@ -2,16 +2,15 @@
 -- In order: a node's places (`Ranged`, `ranged`); any node of a script in range (`node_cases`); small numbers (`target_small`, `field_small`, `count_few`);
 -- places that a kind uses (`next_node`, `other_node`, `out_count`, `out_tags`) and one that it does not (`split_reference`).
 -- Assumes nothing.
-use Rattle.std.specs.Prelude.{ℕ, ◌<◌, ◌≤◌, ◌≡◌, refl, ◌⊎◌, Bool, true, false, ◌&&◌, ◌||◌, eqb, ltb, leb, length, get_or}
-use Rattle.std.proofs.Common.{ap, sym, ◌∙◌, subst, inl, inr, arith, eqb-true, ltb-true, ltb-false, leb-true, leb-false}
+use Rattle.std.specs.Prelude.{ℕ, ◌<◌, ◌≤◌, ◌≡◌, refl, ◌⊎◌, Bool, true, ◌||◌, eqb, ltb, leb, get_or}
+use Rattle.std.proofs.Common.{◌∙◌, subst, inl, inr, arith, eqb-true, ltb-true, leb-true}
 use Rattle.std.proofs.Math.Logic.{by_cases}
 use Rattle.std.proofs.Math.Decide.{dec_lt}
 use Rattle.std.proofs.Math.ListN.{get_or-eq_default}
-use Rattle.std.proofs.lemmas.Bool.{eqb-false}
-use Rattle.laws.specs.Choice.{pick, cases, clash, and_left, and_right, sameb, sameb_eq}
+use Rattle.laws.specs.Choice.{cases, and_left, and_right, sameb, sameb_eq}
 use Rattle.laws.specs.Checks.{all, all_at}
 use Rattle.names.specs.Names.{node_count, none}
-use Rattle.images.specs.Script.{action0, field0, action_at, field_at, row_of, node_in_place, target_in_place, reference_in_place, field_in_range, is_blank, count_in_place, field_in_place, fields_in_place, formals_distinct, places_in_row, fields_in_row, action_in_range, script_in_range}
+use Rattle.images.specs.Script.{action0, field0, action_at, field_at, row_of, node_in_place, target_in_place, reference_in_place, field_in_range, count_in_place, field_in_place, fields_in_place, places_in_row, fields_in_row, action_in_range, script_in_range}
 use Rattle.images.specs.Shape.{ShapedScript}
 use Rattle.images.specs.declared.Field.{Field}
 use Rattle.images.specs.declared.Action.{Action}

@@ -2,7 +2,7 @@
 -- In order: lists (`same_list`), data, names; `same_body`, true exactly when the contents are equal (`same_body_iff`); `is_accepted`, true
 -- exactly when the net is accepted (`accepted_is_tested`).
 -- Assumes nothing.
-use Rattle.std.specs.Prelude.{ℕ, ◌≤◌, ◌<◌, ◌≡◌, ◌↔◌, Bool, true, ◌&&◌, eqb, ltb, leb}
+use Rattle.std.specs.Prelude.{◌≡◌, ◌↔◌, Bool, true, ◌&&◌, eqb, leb}
 use Rattle.std.proofs.Math.Path.{refl}
 use Rattle.std.proofs.Common.{ap, sym, ◌∙◌, eqb-true, eq-eqb, ltb-true}
 use mathlib.Core.List.{List, [], ◌∷◌}
@@ -10,8 +10,6 @@ use Rattle.std.proofs.Math.Bool.{false}
 use Rattle.laws.specs.Choice.{clash, and_left, and_right, and_both}
 use Rattle.names.specs.Names.{locality_count}
 use Rattle.names.specs.declared.Key.{Key}
-use Rattle.names.specs.declared.Locality.{Locality}
-use Rattle.names.specs.declared.Node.{Node}
 use Rattle.images.specs.declared.Datum.{Datum}
 use Rattle.images.specs.declared.Script.{Script}
 use Rattle.nets.specs.Net.{Net}

@@ -3,7 +3,7 @@
 -- In order: kinds (`kind_as`), and that a test of a kind asks for its number (`live_is` and its kin); a slot (`slot_view`); a net (`view`); what
 -- stands at a key (`view_slot`, `view_with`, `beyond`); a free slot is one (`free_view`).
 -- Assumes nothing.
-use Rattle.std.specs.Prelude.{ℕ, zero, suc, ◌<◌, ◌≤◌, ◌≡◌, Bool, true, false, ◌&&◌, eqb, ltb}
+use Rattle.std.specs.Prelude.{ℕ, zero, suc, ◌<◌, ◌≤◌, ◌≡◌, true, false, ◌&&◌, eqb, ltb}
 use Rattle.std.proofs.Math.Path.{refl}
 use Rattle.std.proofs.Common.{sym, arith, ne_eqb, le-ltb, lt-ltb}
 use Rattle.laws.specs.Choice.{pick, cases}

@@ -1,6 +1,6 @@
 use mathlib.Core.Path.{◌≡◌, refl, ◌∙◌, ap, sym, subst}
 use mathlib.Core.List.{List}
-use Prim.Native.Nat.{ℕ, ◌-◌, ◌<◌}
+use Prim.Native.Nat.{ℕ, ◌<◌}
 use native.Mathlib.Omega.{arith}
 use lib.ListN.{get_or, set}
 use borrow.Author.Tests.{le-leb, lt-leb, ltb-true}

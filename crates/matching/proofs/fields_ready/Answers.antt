@@ -1,11 +1,8 @@
 use mathlib.Core.Path.{◌≡◌, ◌∙◌, sym}
-use mathlib.Core.Bool.{true}
-use Prim.Native.Nat.{◌-◌}
 use native.Mathlib.Omega.{arith}
 use borrow.Author.Count.{below_none, below_more}
 use Rattle.laws.specs.Checks.{all_of, all_not}
-use borrow.Author.Tests.{not-true, not-false}
-use Rattle.matching.specs.Evaluate.{is_ready, fields_ready}
+use Rattle.matching.specs.Evaluate.{fields_ready}
 use Rattle.std.proofs.Common.{rules}
 use Rattle.matching.proofs.fields_ready.Goals as goal
 

@@ -1,11 +1,9 @@
 use mathlib.Core.Path.{◌≡◌, ◌∙◌, sym}
-use mathlib.Core.Bool.{true}
-use Prim.Native.Nat.{◌-◌}
 use native.Mathlib.Omega.{arith}
 use borrow.Author.Count.{below_none, below_more}
-use borrow.Author.Tests.{eq-eqb, ne_eqb, not-true, not-false}
+use borrow.Author.Tests.{eq-eqb, ne_eqb}
 use Rattle.laws.specs.Checks.{all_of, all_not}
-use Rattle.matching.specs.Match.{place_meets, meets, match_of, a_match, no_match}
+use Rattle.matching.specs.Match.{meets, match_of, a_match, no_match}
 use Rattle.std.proofs.Common.{rules}
 use Rattle.matching.proofs.match_tuple.Goals as goal
 

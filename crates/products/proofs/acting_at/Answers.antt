@@ -1,5 +1,4 @@
 use mathlib.Core.Path.{◌∙◌, sym}
-use borrow.Author.Tests.{not-true, not-false}
 use Rattle.products.specs.Acting.{acting_at}
 use Rattle.products.proofs.acting_at.Goals as goal
 

@@ -1,5 +1,4 @@
 use mathlib.Core.Path.{◌∙◌, sym}
-use borrow.Author.Tests.{not-true, not-false}
 use Rattle.products.specs.Acting.{readiness, ready_missing, ready_not, ready_at}
 use Rattle.products.proofs.evaluable.Goals as goal
 

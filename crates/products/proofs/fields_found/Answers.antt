@@ -1,5 +1,4 @@
 use mathlib.Core.Path.{◌∙◌, sym}
-use borrow.Author.Tests.{not-true, not-false}
 use Rattle.products.proofs.fields_found.Goals as goal
 
 pub returns-then-not-has_fields : goal.returns-then-not-has_fields

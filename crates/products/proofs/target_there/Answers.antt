@@ -1,5 +1,5 @@
 use mathlib.Core.Path.{◌∙◌, sym}
-use borrow.Author.Tests.{ltb-true, not-true, not-false}
+use borrow.Author.Tests.{ltb-true}
 use Rattle.products.specs.Products.{target_there}
 use Rattle.products.proofs.target_there.Goals as goal
 

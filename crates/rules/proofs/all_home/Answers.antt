@@ -1,11 +1,7 @@
 use mathlib.Core.Path.{◌≡◌, ◌∙◌, sym}
-use mathlib.Core.Bool.{true}
-use Prim.Native.Nat.{◌-◌}
 use native.Mathlib.Omega.{arith}
 use borrow.Author.Count.{below_none, below_more}
 use Rattle.laws.specs.Checks.{all_of, all_not}
-use borrow.Author.Tests.{not-true, not-false}
-use Rattle.rules.specs.Roots.{is_home}
 use Rattle.std.proofs.Common.{rules}
 use Rattle.rules.proofs.all_home.Goals as goal
 
