@@ -18,7 +18,6 @@ use Rattle.images.specs.declared.Datum.{Datum}
 use Rattle.images.specs.declared.Script.{Script}
 use Rattle.images.specs.declared.Slot as Image
 use Rattle.images.specs.declared.Net as Images
-use Rattle.nets.specs.Net.{Slot}
 use Rattle.nets.specs.Accepting.{same_slot, formed}
 use Rattle.products.specs.Body.{Body, body_of, is_process, is_tuple}
 use Rattle.rules.specs.Instance.{rules_of, void}

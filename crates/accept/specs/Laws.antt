@@ -23,7 +23,6 @@ use Rattle.accept.specs.Verdict.{all_agree, verdict, verdict_of}
 use Rattle.accept.specs.Told.{first_of}
 use Rattle.accept.specs.Forms.{net_formed_lem}
 use Rattle.accept.specs.declared.Verdict.{Verdict}
-use Rattle.accept.specs.declared.Verdict.TheVariants as Verdict
 
 -- ---- what each verdict says
 

@@ -53,7 +53,6 @@ use Rattle.cycles.specs.Cycles.{edges, members}
 use Rattle.accept.specs.Whole as W
 use Rattle.accept.specs.Verdict.{all_agree, verdict, verdict_of}
 use Rattle.accept.specs.declared.Verdict.{Verdict}
-use Rattle.accept.specs.declared.Verdict.TheVariants as Verdict
 
 -- ---- tests together
 

@@ -14,7 +14,6 @@ use Rattle.rules.specs.Instance.{rules_of}
 use Rattle.rules.specs.Same.{same_body}
 use Rattle.rules.specs.View.{view}
 use Rattle.accept.specs.declared.Verdict.{Verdict}
-use Rattle.accept.specs.declared.Verdict.TheVariants as Verdict
 
 -- every event agrees with its rule, and so does what it made
 unfoldable pub all_agree : (s : Script) → Net (rules_of s) → Bool

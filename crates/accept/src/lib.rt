@@ -2,6 +2,7 @@
 // clause, in the order of document 01's paragraph; what events made and used is found once, and the last clause, that dependence has no
 // cycle, asks the crate below.
 #![tactic(auto)]
+
 ghost use Rattle.std.specs.Prelude.{◌≡◌};
 ghost use Rattle.images.specs.Read.{script_of, net_of};
 ghost use Rattle.images.specs.Sizes.{Sized, Scripted};

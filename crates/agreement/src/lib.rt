@@ -1,5 +1,6 @@
 // An event and its rule: the rule applies, and what the event made is what the rule makes, but for what happened to it since.
 #![tactic(auto)]
+
 ghost use Rattle.std.specs.Prelude.{◌≡◌, ◌<◌};
 ghost use Rattle.laws.specs.Checks.{all};
 ghost use Rattle.names.specs.Names.{key_count};

@@ -5,6 +5,7 @@
 // a turn that takes none; each turn takes at least one and looks only at those left, so the work is at most in proportion to the square of
 // their number.
 #![tactic(auto)]
+
 ghost use Rattle.std.specs.Prelude.{◌≡◌, true, false, ◌<◌};
 ghost use Rattle.names.specs.Names.{key_count};
 ghost use Rattle.names.specs.KeySets.{is_in, is_empty};

@@ -1,6 +1,7 @@
 // What the events of a net made and used, found once: the keys and localities made and the tuples taken as sets, and who depends on whom
 // as a set for each event.
 #![tactic(auto)]
+
 ghost use Rattle.std.specs.Prelude.{◌≡◌};
 ghost use Rattle.images.specs.Read.{script_of, net_of};
 ghost use Rattle.images.specs.Sizes.{Sized, Scripted};

@@ -9,60 +9,42 @@ returns-then-not-events_agree c =
 
 pub returns-then-not-made : goal.returns-then-not-made
 returns-then-not-made c =
-    let found = c.before.before in
-    let agreed = found.before.before.before.before in
-    let given = agreed.before.before.before.before.args in
-    verdict_key_twice given.script.now given.net.now _ agreed.before.events-agree.ensures (not-false _ agreed.if1.false) _ _ _ _ found.before.before.before.deeds-of.ensures found.before.before.keys-made.ensures found.before.localities-made.ensures found.tuples-taken.ensures
-    c.if-not-made.true
+    let given = c.args in
+    verdict_key_twice given.script.now given.net.now _ c.events_agree.ensures c.if-not-events_agree.false _ _ _ _ c.deeds_of-deeds.ensures c.keys_made-made.ensures c.localities_made-places.ensures c.tuples_taken-taken.ensures
+    (not-true _ c.if-not-made.true)
 
 pub returns-then-not-places : goal.returns-then-not-places
 returns-then-not-places c =
-    let found = c.before.before.before.before in
-    let agreed = found.before.before.before.before in
-    let given = agreed.before.before.before.before.args in
-    verdict_locality_twice given.script.now given.net.now _ agreed.before.events-agree.ensures (not-false _ agreed.if1.false) _ _ _ _ found.before.before.before.deeds-of.ensures found.before.before.keys-made.ensures found.before.localities-made.ensures found.tuples-taken.ensures
-    c.if-not-made.false c.if-not-places.true
+    let given = c.args in
+    verdict_locality_twice given.script.now given.net.now _ c.events_agree.ensures c.if-not-events_agree.false _ _ _ _ c.deeds_of-deeds.ensures c.keys_made-made.ensures c.localities_made-places.ensures c.tuples_taken-taken.ensures
+    (not-false _ c.if-not-made.false) (not-true _ c.if-not-places.true)
 
 pub returns-then-not-taken : goal.returns-then-not-taken
 returns-then-not-taken c =
-    let found = c.before.before.before.before.before.before in
-    let agreed = found.before.before.before.before in
-    let given = agreed.before.before.before.before.args in
-    verdict_tuple_twice given.script.now given.net.now _ agreed.before.events-agree.ensures (not-false _ agreed.if1.false) _ _ _ _ found.before.before.before.deeds-of.ensures found.before.before.keys-made.ensures found.before.localities-made.ensures found.tuples-taken.ensures
-    c.if-not-made.false c.if-not-places.false c.if-not-taken.true
+    let given = c.args in
+    verdict_tuple_twice given.script.now given.net.now _ c.events_agree.ensures c.if-not-events_agree.false _ _ _ _ c.deeds_of-deeds.ensures c.keys_made-made.ensures c.localities_made-places.ensures c.tuples_taken-taken.ensures
+    (not-false _ c.if-not-made.false) (not-false _ c.if-not-places.false) (not-true _ c.if-not-taken.true)
 
 pub returns-then-not-tuples_right : goal.returns-then-not-tuples_right
 returns-then-not-tuples_right c =
-    let once = c.before.before.before in
-    let found = once.before.before.before.before.before.before in
-    let agreed = found.before.before.before.before in
-    let given = agreed.before.before.before.before.args in
-    verdict_tuple given.script.now given.net.now _ agreed.before.events-agree.ensures (not-false _ agreed.if1.false) _ _ _ _ found.before.before.before.deeds-of.ensures found.before.before.keys-made.ensures found.before.localities-made.ensures found.tuples-taken.ensures
-    (not-false _ once.before.before.before.before.if2.false) (not-false _ once.before.before.if3.false) (not-false _ once.if4.false) c.tuples_right.ensures c.if-not-tuples_right.true
+    let given = c.args in
+    verdict_tuple given.script.now given.net.now _ c.events_agree.ensures c.if-not-events_agree.false _ _ _ _ c.deeds_of-deeds.ensures c.keys_made-made.ensures c.localities_made-places.ensures c.tuples_taken-taken.ensures
+    (not-false _ c.if-not-made.false) (not-false _ c.if-not-places.false) (not-false _ c.if-not-taken.false) c.tuples_right.ensures c.if-not-tuples_right.true
 
 pub returns-then-not-localities_right : goal.returns-then-not-localities_right
 returns-then-not-localities_right c =
-    let right = c.before.before.before.before in
-    let once = right.before.before.before in
-    let found = once.before.before.before.before.before.before in
-    let agreed = found.before.before.before.before in
-    let given = agreed.before.before.before.before.args in
-    verdict_locality given.script.now given.net.now _ agreed.before.events-agree.ensures (not-false _ agreed.if1.false) _ _ _ _ found.before.before.before.deeds-of.ensures found.before.before.keys-made.ensures found.before.localities-made.ensures found.tuples-taken.ensures
-    (not-false _ once.before.before.before.before.if2.false) (not-false _ once.before.before.if3.false) (not-false _ once.if4.false) right.before.tuples-right.ensures (not-false _ right.if5.false) c.present_in-present.ensures c.localities_right.ensures c.if-not-localities_right.true
+    let given = c.args in
+    verdict_locality given.script.now given.net.now _ c.events_agree.ensures c.if-not-events_agree.false _ _ _ _ c.deeds_of-deeds.ensures c.keys_made-made.ensures c.localities_made-places.ensures c.tuples_taken-taken.ensures
+    (not-false _ c.if-not-made.false) (not-false _ c.if-not-places.false) (not-false _ c.if-not-taken.false) c.tuples_right.ensures c.if-not-tuples_right.false c.present_in-present.ensures c.localities_right.ensures c.if-not-localities_right.true
 
 pub roots_right-requires : goal.roots_right-requires
 roots_right-requires c = c.requires.1
 
 pub returns-then-not-roots_right : goal.returns-then-not-roots_right
 returns-then-not-roots_right c =
-    let placed = c.before.before.before in
-    let right = placed.before.before.before.before in
-    let once = right.before.before.before in
-    let found = once.before.before.before.before.before.before in
-    let agreed = found.before.before.before.before in
-    let given = agreed.before.before.before.before.args in
-    verdict_root given.script.now given.net.now _ agreed.before.events-agree.ensures (not-false _ agreed.if1.false) _ _ _ _ found.before.before.before.deeds-of.ensures found.before.before.keys-made.ensures found.before.localities-made.ensures found.tuples-taken.ensures
-    (not-false _ once.before.before.before.before.if2.false) (not-false _ once.before.before.if3.false) (not-false _ once.if4.false) right.before.tuples-right.ensures (not-false _ right.if5.false) placed.before.before.before.present-in.ensures placed.before.localities-right.ensures (not-false _ placed.if6.false) c.roots_right.ensures c.if-not-roots_right.true
+    let given = c.args in
+    verdict_root given.script.now given.net.now _ c.events_agree.ensures c.if-not-events_agree.false _ _ _ _ c.deeds_of-deeds.ensures c.keys_made-made.ensures c.localities_made-places.ensures c.tuples_taken-taken.ensures
+    (not-false _ c.if-not-made.false) (not-false _ c.if-not-places.false) (not-false _ c.if-not-taken.false) c.tuples_right.ensures c.if-not-tuples_right.false c.present_in-present.ensures c.localities_right.ensures c.if-not-localities_right.false c.roots_right.ensures c.if-not-roots_right.true
 
 pub events_of-events-requires : goal.events_of-events-requires
 events_of-events-requires c = c.requires.1
@@ -72,26 +54,14 @@ rows_of-rows-requires c = c.requires.1
 
 pub returns-then-not-has_no_cycle : goal.returns-then-not-has_no_cycle
 returns-then-not-has_no_cycle c =
-    let rooted = c.before.before.before.before in
-    let placed = rooted.before.before.before in
-    let right = placed.before.before.before.before in
-    let once = right.before.before.before in
-    let found = once.before.before.before.before.before.before in
-    let agreed = found.before.before.before.before in
-    let given = agreed.before.before.before.before.args in
-    verdict_cycle given.script.now given.net.now _ agreed.before.events-agree.ensures (not-false _ agreed.if1.false) _ _ _ _ found.before.before.before.deeds-of.ensures found.before.before.keys-made.ensures found.before.localities-made.ensures found.tuples-taken.ensures
-    (not-false _ once.before.before.before.before.if2.false) (not-false _ once.before.before.if3.false) (not-false _ once.if4.false) right.before.tuples-right.ensures (not-false _ right.if5.false) placed.before.before.before.present-in.ensures placed.before.localities-right.ensures (not-false _ placed.if6.false) rooted.before.roots-right.ensures (not-false _ rooted.if7.false)
+    let given = c.args in
+    verdict_cycle given.script.now given.net.now _ c.events_agree.ensures c.if-not-events_agree.false _ _ _ _ c.deeds_of-deeds.ensures c.keys_made-made.ensures c.localities_made-places.ensures c.tuples_taken-taken.ensures
+    (not-false _ c.if-not-made.false) (not-false _ c.if-not-places.false) (not-false _ c.if-not-taken.false) c.tuples_right.ensures c.if-not-tuples_right.false c.present_in-present.ensures c.localities_right.ensures c.if-not-localities_right.false c.roots_right.ensures c.if-not-roots_right.false
     _ _ c.events_of-events.ensures c.rows_of-rows.ensures c.has_no_cycle.ensures c.if-not-has_no_cycle.true
 
 pub returns : goal.returns
 returns c =
-    let rooted = c.before.before.before.before in
-    let placed = rooted.before.before.before in
-    let right = placed.before.before.before.before in
-    let once = right.before.before.before in
-    let found = once.before.before.before.before.before.before in
-    let agreed = found.before.before.before.before in
-    let given = agreed.before.before.before.before.args in
-    verdict_accepted given.script.now given.net.now _ agreed.before.events-agree.ensures (not-false _ agreed.if1.false) _ _ _ _ found.before.before.before.deeds-of.ensures found.before.before.keys-made.ensures found.before.localities-made.ensures found.tuples-taken.ensures
-    (not-false _ once.before.before.before.before.if2.false) (not-false _ once.before.before.if3.false) (not-false _ once.if4.false) right.before.tuples-right.ensures (not-false _ right.if5.false) placed.before.before.before.present-in.ensures placed.before.localities-right.ensures (not-false _ placed.if6.false) rooted.before.roots-right.ensures (not-false _ rooted.if7.false)
+    let given = c.args in
+    verdict_accepted given.script.now given.net.now _ c.events_agree.ensures c.if-not-events_agree.false _ _ _ _ c.deeds_of-deeds.ensures c.keys_made-made.ensures c.localities_made-places.ensures c.tuples_taken-taken.ensures
+    (not-false _ c.if-not-made.false) (not-false _ c.if-not-places.false) (not-false _ c.if-not-taken.false) c.tuples_right.ensures c.if-not-tuples_right.false c.present_in-present.ensures c.localities_right.ensures c.if-not-localities_right.false c.roots_right.ensures c.if-not-roots_right.false
     _ _ c.events_of-events.ensures c.rows_of-rows.ensures c.has_no_cycle.ensures c.if-not-has_no_cycle.false

@@ -18,19 +18,15 @@ loop-k-preserved-then-x-ne-PAST c = (search rules, below_more _ _ c.loop-k.invar
 
 pub returns-then-not-event_agrees : goal.returns-then-not-event_agrees
 returns-then-not-event_agrees c =
-    let turn = c.before.before.before.before.before.before in
-    let event = c.before.before in
-    sym (all_not key_count _ turn.loop.k c.loop-k-test.true
-    (event_told _ _ _ event.before.before.slot_at.ensures event.if1.false c.event_agrees.ensures c.if-not-event_agrees.true))
+    sym (all_not key_count _ c.loop-k.k c.loop-k-test.true
+    (event_told _ _ _ c.slot_at-x.ensures c.if-x-ne-PAST.false c.event_agrees.ensures c.if-not-event_agrees.true))
 
 pub loop-k-preserved : goal.loop-k-preserved
-loop-k-preserved c =
-    let turn = c.before.before.before.before.before.before in
-    let event = c.before.before in (
-      search rules,
-      below_more _ _ turn.loop.invariant.1
-          (event_told _ _ _ event.before.before.slot_at.ensures event.if1.false c.event_agrees.ensures c.if-not-event_agrees.false),
-    )
+loop-k-preserved c = (
+  search rules,
+  below_more _ _ c.loop-k.invariant.1
+      (event_told _ _ _ c.slot_at-x.ensures c.if-x-ne-PAST.false c.event_agrees.ensures c.if-not-event_agrees.false),
+)
 
 pub returns : goal.returns
 returns c =

@@ -1,6 +1,6 @@
 use mathlib.Core.Path.{◌∙◌, sym, ap}
 use mathlib.Core.Bool.{Bool}
-use borrow.Author.Tests.{eq-eqb, ne_eqb, not-true, not-false}
+use borrow.Author.Tests.{eq-eqb, ne_eqb}
 use Rattle.agreement.specs.Agreement.{key_needed, placed_by}
 use Rattle.agreement.proofs.places_right.Goals as goal
 

@@ -1,10 +1,8 @@
 use mathlib.Core.Path.{◌≡◌, sym}
-use Prim.Native.Nat.{◌-◌}
 use native.Mathlib.Omega.{arith}
 use borrow.Author.Count.{below_none, below_more}
 use borrow.Author.Tests.{eq-eqb, ne_eqb}
 use Rattle.laws.specs.Checks.{all_of, all_not}
-use mathlib.Core.Bool.{true}
 use Rattle.agreement.specs.Agreement.{same_refs}
 use Rattle.std.proofs.Common.{rules}
 use Rattle.agreement.proofs.same_refs.Goals as goal

@@ -1,15 +1,14 @@
 use mathlib.Core.Path.{◌∙◌, sym, subst}
-use mathlib.Core.Logic.{⊎_elim}
-use Prim.Native.Nat.{◌-◌}
+use Rattle.cycles.proofs.has_no_cycle.Goals.{then-is_empty-2, else-is_empty-2}
 use Rattle.cycles.specs.Following.{Peeled, peeled_first, peeled_next, peeled_empty, peeled_same}
 use Rattle.std.proofs.Common.{rules}
 use Rattle.cycles.proofs.has_no_cycle.Goals as goal
 
 pub loop-looks-init : goal.loop-looks-init
-loop-looks-init c = (search rules, peeled_first c.args.t1 c.args.keys)
+loop-looks-init c = (search rules, peeled_first c.args.rows c.args.keys)
 
 pub returns-then-is_empty : goal.returns-then-is_empty
-returns-then-is_empty c = sym (peeled_empty c.args.t1 c.args.keys _ c.loop-looks.invariant.1 (sym c.is_empty.ensures ∙ c.if-is_empty.true))
+returns-then-is_empty c = sym (peeled_empty c.args.rows c.args.keys _ c.loop-looks.invariant.1 (sym c.is_empty.ensures ∙ c.if-is_empty.true))
 
 pub look_at-k-requires : goal.look_at-k-requires
 look_at-k-requires c = sym c.is_empty.ensures ∙ c.if-is_empty.false
@@ -33,13 +32,14 @@ pub loop-looks-preserved : goal.loop-looks-preserved
 loop-looks-preserved c =
     let l = c.loop-looks in
     let k = c.look_at-k.ensures in
-    let rows = c.args.t1 in
+    let rows = c.args.rows in
     let s = c.args.keys in (
       search rules,
-      ⊎_elim (λ w. peeled_next rows s l.left l.invariant.1 _ _ _ k.0 k.1 c.both-dependent.ensures (sym c.is_empty-in-loop-looks.ensures ∙ w.0.taken) (w.4 ∙ w.1.ensures))
-          (λ w. subst (Peeled rows s) (sym w.3) l.invariant.1)
-          c.if-is_empty-2.branch,
+      elim c.if-is_empty-2.branch [
+        | then-is_empty-2 w ↦ peeled_next rows s l.left l.invariant.1 _ _ _ k.0 k.1 c.both-dependent.ensures (sym c.is_empty-in-loop-looks.ensures ∙ w.if-is_empty-2.true) (w.left-is ∙ w.without-left.ensures)
+        | else-is_empty-2 w ↦ subst (Peeled rows s) (sym w.left-is) l.invariant.1
+      ],
     )
 
 pub returns : goal.returns
-returns c = c.peels_away.ensures ∙ peeled_same c.args.t1 c.args.keys _ c.loop-looks.invariant.1
+returns c = c.peels_away.ensures ∙ peeled_same c.args.rows c.args.keys _ c.loop-looks.invariant.1

@@ -1,7 +1,5 @@
 use mathlib.Core.Path.{◌∙◌, sym}
-use Prim.Native.Nat.{◌-◌}
 use native.Mathlib.Omega.{arith}
-use borrow.Author.Tests.{not-true, not-false}
 use Rattle.cycles.specs.Highest.{without_less}
 use Rattle.cycles.specs.Laws.{passing_first, passing_left, passing_next, passing_done}
 use Rattle.cycles.specs.Laws.{kept_first, kept_next, kept_empty, kept_stuck, kept_last}
@@ -18,7 +16,7 @@ pub loop-to_come-init : goal.loop-to_come-init
 loop-to_come-init c = passing_first _ _
 
 pub highest-k-requires : goal.highest-k-requires
-highest-k-requires c = sym c.is_empty-in-loop-to_come.ensures ∙ not-true _ c.loop-to_come-test.true
+highest-k-requires c = sym c.is_empty-in-loop-to_come.ensures ∙ c.loop-to_come-test.true
 
 pub bounds-rows-k : goal.bounds-rows-k
 bounds-rows-k c = c.highest-k.ensures.below
@@ -42,7 +40,7 @@ loop-to_come-preserved c =
 pub returns-then-rest-left : goal.returns-then-rest-left
 returns-then-rest-left c =
     let p = c.loop-to_come in
-    let done = passing_done _ _ _ _ p.invariant (sym c.is_empty-in-loop-to_come.ensures ∙ not-false _ c.loop-to_come-test.false) in
+    let done = passing_done _ _ _ _ p.invariant (sym c.is_empty-in-loop-to_come.ensures ∙ c.loop-to_come-test.false) in
     let w = c.loop-turn.invariant.1 in
     let some = sym c.is_empty.ensures ∙ c.if-is_empty.false in
     sym (kept_stuck _ _ _ _ p.rest w some done c.if-rest-left.true)
@@ -50,7 +48,7 @@ returns-then-rest-left c =
 pub loop-turn-preserved : goal.loop-turn-preserved
 loop-turn-preserved c =
     let p = c.loop-to_come in
-    let done = passing_done _ _ _ _ p.invariant (sym c.is_empty-in-loop-to_come.ensures ∙ not-false _ c.loop-to_come-test.false) in
+    let done = passing_done _ _ _ _ p.invariant (sym c.is_empty-in-loop-to_come.ensures ∙ c.loop-to_come-test.false) in
     let w = c.loop-turn.invariant.1 in
     (search rules, kept_next _ _ _ _ p.rest w done c.if-rest-left.false)
 

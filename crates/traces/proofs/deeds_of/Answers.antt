@@ -1,12 +1,11 @@
-use mathlib.Core.Logic.{⊎_elim}
 use mathlib.Core.Path.{◌≡◌, ◌∙◌}
-use Prim.Native.Nat.{◌-◌}
 use native.Mathlib.Omega.{arith}
 use borrow.Author.Tests.{eq-eqb, ne_eqb}
 use Rattle.images.specs.Read.{net_of}
 use Rattle.traces.specs.Marks.{deeds_start, deeds_none, deeds_more, deeds_all}
 use Rattle.std.proofs.Common.{rules}
 use Rattle.traces.proofs.deeds_of.Goals as goal
+use Rattle.traces.proofs.deeds_of.Goals.{then-x-eq-PAST, else-x-eq-PAST}
 
 pub loop-i-init : goal.loop-i-init
 loop-i-init c =
@@ -19,9 +18,10 @@ loop-i-preserved c =
     let a = c.args in
     let is = c.slot_at-x.ensures in (
       search rules,
-      ⊎_elim (λ w. w.3 ∙ deeds_more a.script.now (net_of a.net.now) l.i l.deeds l.invariant.1 _ is _ (eq-eqb _ _ w.0.taken) c.loop-i-test.true w.2.ensures)
-          (λ w. w.1 ∙ deeds_none a.script.now (net_of a.net.now) l.i l.deeds l.invariant.1 _ is (ne_eqb _ _ w.0.left))
-          c.if-x-eq-PAST.branch,
+      elim c.if-x-eq-PAST.branch [
+        | then-x-eq-PAST w ↦ w.deeds-is ∙ deeds_more a.script.now (net_of a.net.now) l.i l.deeds l.invariant.1 _ is _ (eq-eqb _ _ w.if-x-eq-PAST.true) c.loop-i-test.true w.node_in-act.ensures
+        | else-x-eq-PAST w ↦ w.deeds-is ∙ deeds_none a.script.now (net_of a.net.now) l.i l.deeds l.invariant.1 _ is (ne_eqb _ _ w.if-x-eq-PAST.false)
+      ],
     )
 
 pub returns : goal.returns

@@ -1,6 +1,4 @@
-use mathlib.Core.Logic.{⊎_elim}
 use mathlib.Core.Path.{◌≡◌, ◌∙◌}
-use Prim.Native.Nat.{◌-◌}
 use native.Mathlib.Omega.{arith}
 use borrow.Author.Tests.{eq-eqb, ne_eqb}
 use Rattle.images.specs.Read.{net_of}
@@ -9,6 +7,7 @@ use Rattle.traces.specs.Traces.{events_of}
 use Rattle.traces.specs.Marks.{event_none, event_more}
 use Rattle.std.proofs.Common.{rules}
 use Rattle.traces.proofs.events_of.Goals as goal
+use Rattle.traces.proofs.events_of.Goals.{then-x-eq-PAST, else-x-eq-PAST}
 
 pub loop-k-init : goal.loop-k-init
 unfolding word_of
@@ -20,9 +19,10 @@ loop-k-preserved c =
     let n = net_of c.args.net.now in
     let is = c.slot_at-x.ensures in (
       search rules,
-      ⊎_elim (λ w. w.2 ∙ w.1.ensures ∙ event_more n l.k l.events l.invariant.1 _ is (eq-eqb _ _ w.0.taken))
-          (λ w. w.1 ∙ event_none n l.k l.events l.invariant.1 _ is (ne_eqb _ _ w.0.left))
-          c.if-x-eq-PAST.branch,
+      elim c.if-x-eq-PAST.branch [
+        | then-x-eq-PAST w ↦ w.events-is ∙ w.with-events.ensures ∙ event_more n l.k l.events l.invariant.1 _ is (eq-eqb _ _ w.if-x-eq-PAST.true)
+        | else-x-eq-PAST w ↦ w.events-is ∙ event_none n l.k l.events l.invariant.1 _ is (ne_eqb _ _ w.if-x-eq-PAST.false)
+      ],
     )
 
 pub returns : goal.returns

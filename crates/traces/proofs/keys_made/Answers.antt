@@ -1,12 +1,11 @@
-use mathlib.Core.Logic.{⊎_elim}
 use mathlib.Core.Path.{◌≡◌, ◌∙◌, sym}
-use Prim.Native.Nat.{◌-◌}
 use native.Mathlib.Omega.{arith}
 use borrow.Author.Tests.{eq-eqb, ne_eqb}
 use Rattle.images.specs.Read.{net_of}
 use Rattle.traces.specs.Marks.{keys_start, made_none, made_more}
 use Rattle.std.proofs.Common.{rules}
 use Rattle.traces.proofs.keys_made.Goals as goal
+use Rattle.traces.proofs.keys_made.Goals.{then-x-eq-PAST, else-x-eq-PAST}
 
 pub loop-i-init : goal.loop-i-init
 loop-i-init c = (search rules, sym (keys_start _))
@@ -17,9 +16,10 @@ loop-i-preserved c =
     let n = net_of c.args.net.now in
     let is = c.slot_at-x.ensures in (
       search rules,
-      ⊎_elim (λ w. w.4 ∙ w.3.ensures ∙ made_more n l.i l.m l.invariant.1 _ is (eq-eqb _ _ w.0.taken))
-          (λ w. w.1 ∙ made_none n l.i l.m l.invariant.1 _ is (ne_eqb _ _ w.0.left))
-          c.if-x-eq-PAST.branch,
+      elim c.if-x-eq-PAST.branch [
+        | then-x-eq-PAST w ↦ w.m-is ∙ w.mark_keys-m.ensures ∙ made_more n l.i l.m l.invariant.1 _ is (eq-eqb _ _ w.if-x-eq-PAST.true)
+        | else-x-eq-PAST w ↦ w.m-is ∙ made_none n l.i l.m l.invariant.1 _ is (ne_eqb _ _ w.if-x-eq-PAST.false)
+      ],
     )
 
 pub returns : goal.returns

@@ -1,12 +1,11 @@
-use mathlib.Core.Logic.{⊎_elim}
 use mathlib.Core.Path.{◌≡◌, ◌∙◌, sym}
-use Prim.Native.Nat.{◌-◌}
 use native.Mathlib.Omega.{arith}
 use borrow.Author.Tests.{eq-eqb, ne_eqb}
 use Rattle.images.specs.Read.{net_of}
 use Rattle.traces.specs.Marks.{places_start, place_none, place_more}
 use Rattle.std.proofs.Common.{rules}
 use Rattle.traces.proofs.localities_made.Goals as goal
+use Rattle.traces.proofs.localities_made.Goals.{then-deeds-i-eq-NEWLOC, else-deeds-i-eq-NEWLOC}
 
 pub loop-i-init : goal.loop-i-init
 loop-i-init c = (search rules, sym (places_start _))
@@ -17,9 +16,10 @@ loop-i-preserved c =
     let a = c.args in
     let n = net_of a.net.now in (
       search rules,
-      ⊎_elim (λ w. w.4 ∙ w.3.ensures ∙ place_more a.t1 n l.i l.m l.invariant.1 (eq-eqb _ _ w.0.taken) _ w.1.ensures)
-          (λ w. w.1 ∙ place_none a.t1 n l.i l.m l.invariant.1 (ne_eqb _ _ w.0.left))
-          c.if-deeds-i-eq-NEWLOC.branch,
+      elim c.if-deeds-i-eq-NEWLOC.branch [
+        | then-deeds-i-eq-NEWLOC w ↦ w.m-is ∙ w.mark_place-m.ensures ∙ place_more a.deeds n l.i l.m l.invariant.1 (eq-eqb _ _ w.if-deeds-i-eq-NEWLOC.true) _ w.slot_at-x.ensures
+        | else-deeds-i-eq-NEWLOC w ↦ w.m-is ∙ place_none a.deeds n l.i l.m l.invariant.1 (ne_eqb _ _ w.if-deeds-i-eq-NEWLOC.false)
+      ],
     )
 
 pub returns : goal.returns

@@ -1,5 +1,5 @@
 use mathlib.Core.Path.{◌∙◌, sym}
-use borrow.Author.Tests.{ltb-true, not-true, not-false}
+use borrow.Author.Tests.{ltb-true}
 use Rattle.traces.specs.Traces.{marked_key}
 use Rattle.traces.proofs.mark_key.Goals as goal
 

@@ -1,6 +1,4 @@
-use mathlib.Core.Logic.{⊎_elim}
 use mathlib.Core.Path.{◌≡◌, ◌∙◌}
-use Prim.Native.Nat.{◌-◌}
 use native.Mathlib.Omega.{arith}
 use borrow.Author.Tests.{eq-eqb, ne_eqb}
 use Rattle.images.specs.Read.{net_of}
@@ -8,11 +6,12 @@ use Rattle.traces.specs.Traces.{deed_at}
 use Rattle.traces.specs.Marks.{place_found, row_looked, rows_start, rows_none, rows_more, rows_all}
 use Rattle.std.proofs.Common.{rules}
 use Rattle.traces.proofs.rows_of.Goals as goal
+use Rattle.traces.proofs.rows_of.Goals.{then-x-eq-PAST, else-x-eq-PAST}
 
 pub loop-i-init : goal.loop-i-init
 loop-i-init c =
     let a = c.args in
-    (search rules, rows_start a.t1 (net_of a.net.now) a.events c.users_of-takers.result c.users_of-readers.result)
+    (search rules, rows_start a.deeds (net_of a.net.now) a.events c.users_of-takers.result c.users_of-readers.result)
 
 pub offset_bounds-takers-f : goal.offset_bounds-takers-f
 offset_bounds-takers-f c = omega (arith, place_found c.slot_at-x.result.first c.index_of-f.ensures)
@@ -52,18 +51,18 @@ bounds-rows-i c = omega (arith, c.loop-i-test.true)
 
 pub loop-i-preserved : goal.loop-i-preserved
 loop-i-preserved c =
-    let turn = c.before.before.before.before in
-    let l = turn.loop in
-    let a = turn.before.before.before.before.args in
+    let l = c.loop-i in
+    let a = c.args in
     let n = net_of a.net.now in
-    let takers = turn.before.before.users-of.result in
-    let readers = turn.before.users-of2.result in
+    let takers = c.users_of-takers.result in
+    let readers = c.users_of-readers.result in
     let x = c.slot_at-x in (
       search rules,
-      ⊎_elim (λ w. w.17 ∙ rows_more a.t1 n a.events takers readers l.i l.rows l.invariant.1 x.result x.ensures _ (eq-eqb _ _ w.0.taken) c.loop-i-test.true
-          (row_looked (deed_at a.t1 l.i) x.result a.events takers readers w.2.ensures w.7.ensures w.12.ensures w.5.ensures w.10.ensures w.14.ensures w.15.ensures w.16.ensures))
-          (λ w. w.1 ∙ rows_none a.t1 n a.events takers readers l.i l.rows l.invariant.1 x.result x.ensures (ne_eqb _ _ w.0.left))
-          c.if-x-eq-PAST.branch,
+      elim c.if-x-eq-PAST.branch [
+        | then-x-eq-PAST w ↦ w.rows-is ∙ rows_more a.deeds n a.events takers readers l.i l.rows l.invariant.1 x.result x.ensures _ (eq-eqb _ _ w.if-x-eq-PAST.true) c.loop-i-test.true
+            (row_looked (deed_at a.deeds l.i) x.result a.events takers readers w.index_of-f.ensures w.index_of-g.ensures w.index_of-u.ensures w.after_key-one.ensures w.after_key-two.ensures w.after_read-three.ensures w.either-made.ensures w.either.ensures)
+        | else-x-eq-PAST w ↦ w.rows-is ∙ rows_none a.deeds n a.events takers readers l.i l.rows l.invariant.1 x.result x.ensures (ne_eqb _ _ w.if-x-eq-PAST.false)
+      ],
     )
 
 pub returns : goal.returns

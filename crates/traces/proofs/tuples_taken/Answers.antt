@@ -1,12 +1,11 @@
-use mathlib.Core.Logic.{⊎_elim}
 use mathlib.Core.Path.{◌≡◌, ◌∙◌, sym}
-use Prim.Native.Nat.{◌-◌}
 use native.Mathlib.Omega.{arith}
 use borrow.Author.Tests.{eq-eqb, ne_eqb}
 use Rattle.images.specs.Read.{net_of}
 use Rattle.traces.specs.Marks.{keys_start, used_none, used_more}
 use Rattle.std.proofs.Common.{rules}
 use Rattle.traces.proofs.tuples_taken.Goals as goal
+use Rattle.traces.proofs.tuples_taken.Goals.{then-deeds-i-eq-IN, else-deeds-i-eq-IN}
 
 pub loop-i-init : goal.loop-i-init
 loop-i-init c = (search rules, sym (keys_start _))
@@ -17,9 +16,10 @@ loop-i-preserved c =
     let a = c.args in
     let n = net_of a.net.now in (
       search rules,
-      ⊎_elim (λ w. w.4 ∙ w.3.ensures ∙ used_more 2 a.t1 n l.i l.m l.invariant.1 (eq-eqb _ _ w.0.taken) _ w.1.ensures)
-          (λ w. w.1 ∙ used_none 2 a.t1 n l.i l.m l.invariant.1 (ne_eqb _ _ w.0.left))
-          c.if-deeds-i-eq-IN.branch,
+      elim c.if-deeds-i-eq-IN.branch [
+        | then-deeds-i-eq-IN w ↦ w.m-is ∙ w.mark_key-m.ensures ∙ used_more 2 a.deeds n l.i l.m l.invariant.1 (eq-eqb _ _ w.if-deeds-i-eq-IN.true) _ w.slot_at-x.ensures
+        | else-deeds-i-eq-IN w ↦ w.m-is ∙ used_none 2 a.deeds n l.i l.m l.invariant.1 (ne_eqb _ _ w.if-deeds-i-eq-IN.false)
+      ],
     )
 
 pub returns : goal.returns

@@ -1,12 +1,11 @@
-use mathlib.Core.Logic.{⊎_elim}
 use mathlib.Core.Path.{◌≡◌, ◌∙◌, sym}
-use Prim.Native.Nat.{◌-◌}
 use native.Mathlib.Omega.{arith}
 use borrow.Author.Tests.{eq-eqb, ne_eqb, ltb-true}
 use Rattle.images.specs.Read.{net_of}
 use Rattle.traces.specs.Marks.{users_start, users_none, users_away, users_more}
 use Rattle.std.proofs.Common.{rules}
 use Rattle.traces.proofs.users_of.Goals as goal
+use Rattle.traces.proofs.users_of.Goals.{then-deeds-i+then-is_key, then-deeds-i+else-is_key, else-deeds-i}
 
 pub loop-k-init : goal.loop-k-init
 loop-k-init c = (search rules, users_start _ _ _)
@@ -29,10 +28,11 @@ loop-k-preserved c =
     let a = c.args in
     let n = net_of a.net.now in (
       search rules,
-      ⊎_elim (λ w. w.8 ∙ users_more a.deed a.t2 n l.k l.users l.invariant.1 (eq-eqb _ _ w.0.taken) _ w.1.ensures (sym w.3.ensures ∙ w.4.taken) _ w.7.ensures)
-          (⊎_elim (λ w. w.5 ∙ users_away a.deed a.t2 n l.k l.users l.invariant.1 _ w.1.ensures (sym w.3.ensures ∙ w.4.left))
-          (λ w. w.1 ∙ users_none a.deed a.t2 n l.k l.users l.invariant.1 (ne_eqb _ _ w.0.left)))
-          c.if-deeds-i.branch,
+      elim c.if-deeds-i.branch [
+        | then-deeds-i+then-is_key w ↦ w.users-is ∙ users_more a.deed a.deeds n l.k l.users l.invariant.1 (eq-eqb _ _ w.if-deeds-i.true) _ w.slot_at-x.ensures (sym w.is_key.ensures ∙ w.if-is_key.true) _ w.with.ensures
+        | then-deeds-i+else-is_key w ↦ w.users-is ∙ users_away a.deed a.deeds n l.k l.users l.invariant.1 _ w.slot_at-x.ensures (sym w.is_key.ensures ∙ w.if-is_key.false)
+        | else-deeds-i w ↦ w.users-is ∙ users_none a.deed a.deeds n l.k l.users l.invariant.1 (ne_eqb _ _ w.if-deeds-i.false)
+      ],
     )
 
 pub returns : goal.returns

@@ -1,5 +1,5 @@
 use mathlib.Core.Path.{◌∙◌, sym}
-use borrow.Author.Tests.{ltb-true, not-true, not-false}
+use borrow.Author.Tests.{ltb-true}
 use Rattle.accept.specs.Whole.{root_right}
 use Rattle.accept.proofs.whole.root_right.Goals as goal
 

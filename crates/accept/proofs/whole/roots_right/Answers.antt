@@ -1,12 +1,9 @@
 use mathlib.Core.Path.{◌≡◌, ◌∙◌, sym}
-use mathlib.Core.Bool.{true}
-use Prim.Native.Nat.{◌-◌}
 use native.Mathlib.Omega.{arith}
 use borrow.Author.Count.{below_none, below_more}
-use borrow.Author.Tests.{not-true, not-false}
 use Rattle.laws.specs.Checks.{all_of, all_not}
 use Rattle.images.specs.Read.{net_of}
-use Rattle.accept.specs.Whole.{root_right, roots_right}
+use Rattle.accept.specs.Whole.{roots_right}
 use Rattle.accept.specs.Told.{root_at}
 use Rattle.std.proofs.Common.{rules}
 use Rattle.accept.proofs.whole.roots_right.Goals as goal
@@ -17,15 +14,13 @@ loop-k-init c = (search rules, below_none _)
 pub returns-then-not-root_right : goal.returns-then-not-root_right
 unfolding roots_right
 returns-then-not-root_right c =
-    let turn = c.before.before.before.before.before in
-    let a = turn.before.before.before.args in
-    sym (all_not 64 _ turn.loop.k c.loop-k-test.true (root_at (net_of a.net.now) a.made turn.loop.k turn.before.present-in.ensures c.slot_at-x.ensures c.has-by_event.ensures c.root_right.ensures ∙ c.if-not-root_right.true))
+    let a = c.args in
+    sym (all_not 64 _ c.loop-k.k c.loop-k-test.true (root_at (net_of a.net.now) a.made c.loop-k.k c.present_in-present.ensures c.slot_at-x.ensures c.has-by_event.ensures c.root_right.ensures ∙ c.if-not-root_right.true))
 
 pub loop-k-preserved : goal.loop-k-preserved
 loop-k-preserved c =
-    let turn = c.before.before.before.before.before in
-    let a = turn.before.before.before.args in
-    (search rules, below_more _ _ turn.loop.invariant.1 (root_at (net_of a.net.now) a.made turn.loop.k turn.before.present-in.ensures c.slot_at-x.ensures c.has-by_event.ensures c.root_right.ensures ∙ c.if-not-root_right.false))
+    let a = c.args in
+    (search rules, below_more _ _ c.loop-k.invariant.1 (root_at (net_of a.net.now) a.made c.loop-k.k c.present_in-present.ensures c.slot_at-x.ensures c.has-by_event.ensures c.root_right.ensures ∙ c.if-not-root_right.false))
 
 pub returns : goal.returns
 unfolding roots_right
