@@ -1,6 +1,7 @@
 // The finder and the helpers of document 01, on the bytes of a script and a net: which tuple a process at an in or a read would meet, and which
 // names are left for a step to make. Nothing is changed by asking.
 #![tactic(auto)]
+
 ghost use Rattle.std.specs.Prelude.{◌≡◌};
 ghost use Rattle.names.specs.Names.{none, key};
 ghost use Rattle.images.specs.Read.{action_of, slot_of, script_of, net_of};

@@ -115,7 +115,7 @@ module _ (a : Action) (n : Net) (r : Request) where
 
     pub apart_first : r.key.0 ≡ r.first.0 → ⊥
     apart_first e =
-        (free_kind (slot_with n r.first).kind first_free).0 (ap (λ (k : Key). (slot_with n k).kind) (λ i. record { 0 = sym e i }) ∙ g.is_live)
+        (free_kind (slot_with n r.first).kind first_free).0 (ap (λ (k : Key). (slot_with n k).kind) (λ i. record { 0 = sym e i }) ∙ g.is_live_lem)
 
     module _ (m : meets_tuple a.kind ≡ true) where
       a_tuple : (slot_with n r.used).kind ≡ 3
@@ -129,7 +129,7 @@ module _ (a : Action) (n : Net) (r : Request) where
       pub apart_taken : r.used.0 ≡ r.key.0 → ⊥
       apart_taken e =
           let same : (slot_with n r.used).kind ≡ (slot_with n r.key).kind = ap (λ (k : Key). (slot_with n k).kind) (λ i. record { 0 = e i }) in
-          omega (arith, same, a_tuple, g.is_live)
+          omega (arith, same, a_tuple, g.is_live_lem)
 
 -- a needed place that is in range is a key
 pub used_key : (kind : ℕ) (r : Request) → in_range (asked r) ≡ true → places_by kind r ≡ true → meets_tuple kind ≡ true → is_key r.used ≡ true

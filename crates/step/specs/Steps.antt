@@ -105,7 +105,7 @@ module _ (s : Script) (nodes : length s.nodes ≡ node_count) (n : Images.Net) (
 
   -- the process is live, so it is at no fresh key
   process_held : is_free (W.slot r.key.0).kind ≡ false
-  process_held = ap is_free can.is_live
+  process_held = ap is_free can.is_live_lem
 
   is_process_lem : is_key r.key ≡ true
   is_process_lem = lt-ltb r.key.0 key_count (held_below r.key.0 process_held)
@@ -238,7 +238,7 @@ module _ (s : Script) (nodes : length s.nodes ≡ node_count) (n : Images.Net) (
       (λ z.
       let at-k = eqb-true k r.used.0 z in
       let unmade-k : made_key k d ≡ false = held_unmade k (ap (λ (j : ℕ). is_free (W.slot j).kind) at-k ∙ held) in
-      let not_key : eqb k r.key.0 ≡ false = ne_eqb k r.key.0 (λ e. true≢false (sym (ap is_live_tuple live_tuple_lem) ∙ ap (λ (j : ℕ). is_live_tuple (W.slot j).kind) (sym at-k ∙ e) ∙ ap is_live_tuple can.is_live)) in
+      let not_key : eqb k r.key.0 ≡ false = ne_eqb k r.key.0 (λ e. true≢false (sym (ap is_live_tuple live_tuple_lem) ∙ ap (λ (j : ℕ). is_live_tuple (W.slot j).kind) (sym at-k ∙ e) ∙ ap is_live_tuple can.is_live_lem)) in
       let eaten : eqb r.used.0 k ≡ true = eq-eqb r.used.0 k (sym at-k) in
       let the-body : body_of t ≡ (W.slot k).body = sym (ap (λ (j : ℕ). (W.slot j).body) at-k ∙ ap (λ (y : Slot (rules_of s)). y.body) (view_with s n r.used)) in
       let left : (view s (applied n c)).slot k ≡ slot_view s c.other.slot = stands k true (is_at c.first k) (is_at c.event k) (other ∙ z) refl refl in

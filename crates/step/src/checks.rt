@@ -124,8 +124,8 @@ pub fn tuple_there(kind: u8, net: &[u8], used: Key, l: Locality) -> Check
 
 // The node's template against the tuple with this key; a node that meets none asks nothing.
 pub fn template_met(vars: [Datum; Variable::COUNT], node: &[u8], net: &[u8], used: Key) -> Check
-    requires node_sized { NodeSized node.now × Sized net.now }
-    requires used_value { (meets_tuple (action_of node.now).kind ≡ true) → (is_key used ≡ true) }
+    requires sized { NodeSized node.now × Sized net.now }
+    requires used_is_key { (meets_tuple (action_of node.now).kind ≡ true) → (is_key used ≡ true) }
     ensures { result ≡ checked (template_met (action_of node.now) vars (slot_with (net_of net.now) used)) }
 {
     let a = action_of(node);

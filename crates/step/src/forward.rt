@@ -263,8 +263,8 @@ fn put_made(node: &[u8], r: Request, net: &mut [u8])
 
 // The step of the process with the request's key at this node, which acts here: no check refuses it.
 fn write_forward(node: &[u8], r: Request, at: Locality, net: &mut [u8])
-    requires node_sized { NodeSized node.now × Sized net.old × (in_range (asked r) ≡ true) }
-    requires r_value { allowed_by (action_of node.now) (net_of net.old) r ≡ Allowed.At at }
+    requires in_form { NodeSized node.now × Sized net.old × (in_range (asked r) ≡ true) }
+    requires allowed { allowed_by (action_of node.now) (net_of net.old) r ≡ Allowed.At at }
     ensures { net.new ≡ change_bytes (forward_in (action_of node.now) (net_of net.old) r) net.old }
 {
     put_event(r, net);

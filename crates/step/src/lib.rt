@@ -1,6 +1,7 @@
 // Forward and backward steps in the lent bytes of a script and a net. The checks answer document 01's number from check 4 on; a step that none
 // refuses is written into the net's bytes: at most three slots, and the present set.
 #![tactic(auto)]
+
 ghost use Rattle.std.specs.Prelude.{◌≡◌};
 ghost use Rattle.products.specs.Body.{body_of, fresh};
 

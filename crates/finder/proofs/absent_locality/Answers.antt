@@ -1,8 +1,5 @@
 use mathlib.Core.Path.{sym, ◌∙◌}
-use mathlib.Core.Bool.{false}
-use Prim.Native.Nat.{◌-◌}
 use native.Mathlib.Omega.{arith}
-use borrow.Author.Tests.{not-true, not-false}
 use borrow.Author.Count.{below_more}
 use Rattle.finder.specs.Helpers.{absent_first, absent_not, absent_at, absent_end}
 use Rattle.std.proofs.Common.{rules}

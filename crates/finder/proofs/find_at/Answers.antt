@@ -1,5 +1,4 @@
 use mathlib.Core.Path.{◌∙◌, sym}
-use borrow.Author.Tests.{not-true, not-false}
 use Rattle.images.specs.Read.{net_of}
 use Rattle.finder.specs.Searched.{no_template, unready, no_target, searching}
 use Rattle.finder.proofs.find_at.Goals as goal

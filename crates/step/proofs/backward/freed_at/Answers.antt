@@ -1,5 +1,5 @@
 use mathlib.Core.Path.{sym, ◌∙◌}
-use borrow.Author.Tests.{ltb-true, not-true, not-false}
+use borrow.Author.Tests.{ltb-true}
 use Rattle.images.specs.Net.{slot_with}
 use Rattle.images.specs.Read.{net_of}
 use Rattle.step.specs.Back.{freed_no_key, freed_no_place, freed_there}

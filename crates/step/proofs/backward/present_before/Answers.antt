@@ -1,5 +1,5 @@
 use mathlib.Core.Path.{◌∙◌, sym}
-use borrow.Author.Tests.{eq-eqb, ne_eqb, ltb-true, not-true, not-false}
+use borrow.Author.Tests.{eq-eqb, ne_eqb, ltb-true}
 use Rattle.step.specs.Backward.{present_before}
 use Rattle.step.proofs.backward.present_before.Goals as goal
 

@@ -1,4 +1,3 @@
-use Prim.Native.Nat.{◌-◌}
 use native.Mathlib.Omega.{arith}
 use Rattle.images.specs.Read.{script_of, net_of}
 use Rattle.step.specs.Back.{untaken_first, untaken_all, next_untaken_other, next_untaken_kind, next_untaken_node, taker_here}

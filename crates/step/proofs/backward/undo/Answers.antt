@@ -12,7 +12,9 @@ pub freed_at-touched-requires : goal.freed_at-touched-requires
 freed_at-touched-requires c = undo_sized c.args.script.now c.args.net.now c.requires.0 c.args.k c.requires.1
 
 pub put_keeping-requires : goal.put_keeping-requires
-put_keeping-requires c = undo_keeps c.args.script.now c.args.net.now c.requires.0 c.args.k c.requires.1 _ c.slot_at-x.ensures _ c.as_new-live.ensures
+put_keeping-requires c =
+    let h = undo_keeps c.args.script.now c.args.net.now c.requires.0 c.args.k c.requires.1 _ c.slot_at-x.ensures _ c.as_new-live.ensures in
+    record { sized = h.0; contents_value = h.1 }
 
 pub put_slot-requires : goal.put_slot-requires
 put_slot-requires c = slot_kept _ _ _ _ c.put_keeping.ensures (undo_sized c.args.script.now c.args.net.now c.requires.0 c.args.k c.requires.1)
@@ -27,7 +29,7 @@ pub put_present-requires : goal.put_present-requires
 put_present-requires c = slot_kept _ _ _ _ c.put_back.ensures (slot_kept _ _ _ _ c.put_slot.ensures (slot_kept _ _ _ _ c.put_keeping.ensures (undo_sized c.args.script.now c.args.net.now c.requires.0 c.args.k c.requires.1)))
 
 pub returns : goal.returns
-returns c = (
-  undo_touches c.args.script.now c.args.net.now c.requires.0 c.args.k c.requires.1 _ c.slot_at-x.ensures _ _ c.freed_at-one.ensures c.freed_at-touched.ensures,
-  undo_writes c.args.script.now c.args.net.now c.requires.0 c.args.k c.requires.1 _ c.slot_at-x.ensures (λ i. (c.type_inv.script i).fits) _ c.node_in-a.ensures _ _ _ _ _ _ _ _ c.as_new-live.ensures c.put_keeping.ensures c.free_slot-free.ensures c.put_slot.ensures c.put_back.ensures c.present_in-present.ensures c.present_before-before.ensures c.put_present.ensures,
-)
+returns c = record {
+  value = undo_touches c.args.script.now c.args.net.now c.requires.0 c.args.k c.requires.1 _ c.slot_at-x.ensures _ _ c.freed_at-one.ensures c.freed_at-touched.ensures;
+  net_after = undo_writes c.args.script.now c.args.net.now c.requires.0 c.args.k c.requires.1 _ c.slot_at-x.ensures (λ i. (c.type_inv.script i).fits) _ c.node_in-a.ensures _ _ _ _ _ _ _ _ c.as_new-live.ensures c.put_keeping.ensures c.free_slot-free.ensures c.put_slot.ensures c.put_back.ensures c.present_in-present.ensures c.present_before-before.ensures c.put_present.ensures;
+}

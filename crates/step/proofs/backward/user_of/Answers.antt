@@ -1,4 +1,3 @@
-use Prim.Native.Nat.{◌-◌}
 use native.Mathlib.Omega.{arith}
 use Rattle.images.specs.Read.{net_of}
 use Rattle.step.specs.Back.{unused_first, unused_all, next_other, next_kind, user_here}

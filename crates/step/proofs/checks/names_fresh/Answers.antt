@@ -1,6 +1,5 @@
 use mathlib.Core.Path.{ap, sym, ◌∙◌}
-use mathlib.Core.Bool.{Bool, true, false}
-use borrow.Author.Tests.{not-true, not-false}
+use mathlib.Core.Bool.{Bool}
 use Rattle.names.specs.declared.Localities.{Localities}
 use Rattle.step.specs.Tests.{checked, names_fresh, second_fresh, place_fresh}
 use Rattle.step.proofs.checks.names_fresh.Goals as goal

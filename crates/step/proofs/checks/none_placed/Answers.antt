@@ -1,5 +1,4 @@
 use mathlib.Core.Path.{◌∙◌, sym}
-use borrow.Author.Tests.{not-true, not-false}
 use Rattle.requests.specs.Answers.{no_places}
 use Rattle.step.specs.Tests.{checked}
 use Rattle.step.proofs.checks.none_placed.Goals as goal

@@ -1,6 +1,5 @@
 use mathlib.Core.Path.{◌∙◌, sym, ap}
 use mathlib.Core.Bool.{Bool}
-use borrow.Author.Tests.{not-true, not-false}
 use Rattle.requests.specs.Answers.{as_needed}
 use Rattle.step.specs.Tests.{checked, places_by}
 use Rattle.step.proofs.checks.places_given.Goals as goal

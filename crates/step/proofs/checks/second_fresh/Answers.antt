@@ -1,5 +1,4 @@
 use mathlib.Core.Path.{◌∙◌, sym}
-use borrow.Author.Tests.{not-true, not-false}
 use Rattle.step.specs.Tests.{second_fresh}
 use Rattle.step.proofs.checks.second_fresh.Goals as goal
 

@@ -20,14 +20,16 @@ pub forward_found-found-requires : goal.forward_found-found-requires
 forward_found-found-requires c = (search rules, net_sized c.args.net.now c.requires.0.formed, c.requires.1)
 
 pub write_forward-requires : goal.write_forward-requires
-write_forward-requires c = record { node_sized = (search rules, net_sized c.args.net.now c.requires.0.formed, c.requires.1); r_value = sym c.forward_found-found.ensures ∙ c.in-At.is }
+write_forward-requires c = record { in_form = (search rules, net_sized c.args.net.now c.requires.0.formed, c.requires.1); allowed = sym c.forward_found-found.ensures ∙ c.in-At.is }
 
 pub returns-in-Refused : goal.returns-in-Refused
 returns-in-Refused c =
-    forward_refused c.args.script.now c.args.net.now c.requires.0 c.args.r c.requires.1 (λ i. (c.type_inv.script i).fits) (λ i. (c.slice_known-1.given i).fits) _ (sym (ap (λ (z : Action). allowed_by z (net_of c.args.net.now) c.args.r) (node_here c.args.script.now c.args.net.now c.requires.0 c.args.r c.requires.1 _ (c.start-i.ensures ∙ ap (λ (z : Slot). start_of z.node) c.slot_in-x.ensures))) ∙ sym c.forward_found-found.ensures ∙ c.in-Refused.is) _ c.refused.ensures
+    let h = forward_refused c.args.script.now c.args.net.now c.requires.0 c.args.r c.requires.1 (λ i. (c.type_inv.script i).fits) (λ i. search rules) _ (sym (ap (λ (z : Action). allowed_by z (net_of c.args.net.now) c.args.r) (node_here c.args.script.now c.args.net.now c.requires.0 c.args.r c.requires.1 _ (c.start-i.ensures ∙ ap (λ (z : Slot). start_of z.node) c.slot_in-x.ensures))) ∙ sym c.forward_found-found.ensures ∙ c.in-Refused.is) _ c.refused.ensures in
+    record { value = h.0; net_after = h.1 }
 
 pub returns-in-At : goal.returns-in-At
 returns-in-At c =
     let n = net_of c.args.net.now in
-    forward_done_lem c.args.script.now c.args.net.now c.requires.0 c.args.r c.requires.1 (λ i. (c.type_inv.script i).fits) (λ i. (c.slice_known-1.given i).fits) (sym (ap (λ (z : Action). allowed_by z (net_of c.args.net.now) c.args.r) (node_here c.args.script.now c.args.net.now c.requires.0 c.args.r c.requires.1 _ (c.start-i.ensures ∙ ap (λ (z : Slot). start_of z.node) c.slot_in-x.ensures))) ∙ sym c.forward_found-found.ensures ∙ c.in-At.is) _ refl _
-    (c.write_forward.ensures ∙ ap (λ (z : Action). change_bytes (forward_in z n c.args.r) c.args.net.now) (node_here c.args.script.now c.args.net.now c.requires.0 c.args.r c.requires.1 _ (c.start-i.ensures ∙ ap (λ (z : Slot). start_of z.node) c.slot_in-x.ensures)))
+    let h = forward_done_lem c.args.script.now c.args.net.now c.requires.0 c.args.r c.requires.1 (λ i. (c.type_inv.script i).fits) (λ i. search rules) (sym (ap (λ (z : Action). allowed_by z (net_of c.args.net.now) c.args.r) (node_here c.args.script.now c.args.net.now c.requires.0 c.args.r c.requires.1 _ (c.start-i.ensures ∙ ap (λ (z : Slot). start_of z.node) c.slot_in-x.ensures))) ∙ sym c.forward_found-found.ensures ∙ c.in-At.is) _ refl _
+    (c.write_forward.ensures ∙ ap (λ (z : Action). change_bytes (forward_in z n c.args.r) c.args.net.now) (node_here c.args.script.now c.args.net.now c.requires.0 c.args.r c.requires.1 _ (c.start-i.ensures ∙ ap (λ (z : Slot). start_of z.node) c.slot_in-x.ensures))) in
+    record { value = h.0; net_after = h.1 }

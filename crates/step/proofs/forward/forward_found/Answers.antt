@@ -88,7 +88,7 @@ returns-in_default-tuple_there c =
     refl
 
 pub template_met-requires : goal.template_met-requires
-template_met-requires c = record { node_sized = (c.requires.0, c.requires.1); used_value = λ m. used_key _ c.args.r c.requires.2 (sym (ap (λ (z : Action). places_by z.kind c.args.r) c.action_of-a.ensures) ∙ holds_true _ (sym c.places_given.ensures ∙ c.in-Holds-places_given.is)) m }
+template_met-requires c = record { sized = (c.requires.0, c.requires.1); used_is_key = λ m. used_key _ c.args.r c.requires.2 (sym (ap (λ (z : Action). places_by z.kind c.args.r) c.action_of-a.ensures) ∙ holds_true _ (sym c.places_given.ensures ∙ c.in-Holds-places_given.is)) m }
 
 pub returns-in_default-template_met : goal.returns-in_default-template_met
 unfolding forward_found forward_tests refusal

@@ -1,5 +1,5 @@
 use mathlib.Core.Path.{◌∙◌, sym}
-use borrow.Author.Tests.{eq-eqb, ne_eqb, ltb-true, not-true, not-false}
+use borrow.Author.Tests.{eq-eqb, ne_eqb, ltb-true}
 use Rattle.step.specs.Forward.{present_after}
 use Rattle.step.proofs.forward.present_after.Goals as goal
 

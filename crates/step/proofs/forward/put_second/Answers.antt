@@ -1,6 +1,5 @@
 use mathlib.Core.Path.{ap, sym, ◌∙◌}
-use mathlib.Core.Bool.{true, false}
-use borrow.Author.Tests.{eq-eqb, ne_eqb, not-true, not-false}
+use borrow.Author.Tests.{eq-eqb, ne_eqb}
 use Rattle.images.specs.Net.{slot_with}
 use Rattle.images.specs.Read.{net_of, action_of}
 use Rattle.images.specs.InPlace.{slot_put}
@@ -18,7 +17,7 @@ unfolding second_put
 returns-then-not-makes_second c = rw (sym (ap (λ (z : Action). makes_second z.kind) c.action_of-a.ensures) ∙ sym c.makes_second.ensures ∙ c.if-not-makes_second.true) (sym (puts_nothing c.args.net.now))
 
 pub tuple_at-tuple-requires : goal.tuple_at-tuple-requires
-tuple_at-tuple-requires c = (shaped_own_action c.action_of-a.result _ c.action_of-a.type-inv).fields
+tuple_at-tuple-requires c = (shaped_own_action c.action_of-a.result _ c.action_of-a.type_inv).fields
 
 pub put_slot-requires : goal.put_slot-requires
 put_slot-requires c = c.requires.1

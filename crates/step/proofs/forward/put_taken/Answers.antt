@@ -1,5 +1,4 @@
 use mathlib.Core.Path.{ap, sym, ◌∙◌}
-use mathlib.Core.Bool.{true, false}
 use borrow.Author.Tests.{eq-eqb, ne_eqb}
 use Rattle.images.specs.InPlace.{slot_put}
 use Rattle.images.specs.declared.Action.{Action}

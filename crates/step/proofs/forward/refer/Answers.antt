@@ -1,4 +1,3 @@
-use mathlib.Core.Bool.{true, false}
 use borrow.Author.Tests.{lt-ltb, le-ltb}
 use Rattle.step.specs.Next.{refer_put}
 use Rattle.step.proofs.forward.refer.Goals as goal

@@ -1,3 +1,4 @@
+use Rattle.std.proofs.Common.{rules}
 use Rattle.images.specs.Read.{net_of, action_of}
 use Rattle.step.specs.Allowed.{at_found, found}
 use Rattle.step.specs.Next.{forward_written}
@@ -7,6 +8,6 @@ pub returns : goal.returns
 returns c =
     let g = c.args in
     let a = action_of g.node.now in
-    let h = at_found a (net_of g.net.now) g.r g.at c.requires.r_value in
-    forward_written a g.net.now c.requires.node_sized.1 (λ i. (c.type_inv.net i).fits) g.r c.requires.node_sized.2 (found a (net_of g.net.now) g.r h.0) g.at h.1 _ _ _ _ _ _
+    let h = at_found a (net_of g.net.now) g.r g.at c.requires.allowed in
+    forward_written a g.net.now c.requires.in_form.1 (λ i. search rules) g.r c.requires.in_form.2 (found a (net_of g.net.now) g.r h.0) g.at h.1 _ _ _ _ _ _
     c.put_event.ensures c.put_next.ensures c.bind_next.ensures c.put_second.ensures c.put_taken.ensures c.put_made.ensures
