@@ -21,7 +21,7 @@ use Rattle.rules.specs.Instance.{act_of}
 use Rattle.rules.specs.Roots.{rooted}
 use Rattle.nets.specs.Rule.{product}
 use Rattle.nets.specs.Forward.{forward}
-use Rattle.nets.specs.Demands.{forward_accepted}
+use Rattle.nets.proofs.Demands.{forward_accepted}
 use Rattle.requests.specs.Checks.{refusal}
 use Rattle.requests.specs.Answers.{Request, in_range, places, places_of, tuple_there, fresh_free, forward_checks}
 use Rattle.requests.specs.Laws.{forward_can}

@@ -9,7 +9,7 @@ use Rattle.laws.specs.Choice.{cases, clash, and_left, and_right, or_cases, ◌�
 use Rattle.laws.specs.Checks.{all, all_at}
 use Rattle.order.specs.KeySets.{Set, ◌∈◌, members}
 use Rattle.order.specs.Graphs.{Graph, Reach, Over, Closed}
-use Rattle.order.specs.Dependents as D
+use Rattle.order.proofs.Dependents as D
 use Rattle.nets.specs.Net.{Slot, Net, free_slot, is_past, events, made_key, read_tuple, makes, reads, takes, depends, dependents}
 use Rattle.cases.specs.Script.{T}
 

@@ -1,5 +1,5 @@
--- Nets of keyed records with the memory of past steps: forward and backward steps, dependence, undoing of sets, which nets are accepted, and
--- the theorems about them, over any rules and any number of keys.
+-- Nets of keyed records with the memory of past steps: forward and backward steps, dependence, undoing of sets, and which nets are accepted,
+-- over any rules and any number of keys. The theorems about them are in proofs/: read `Demands` there.
 
 -- what it means
 pub mod Rules
@@ -8,19 +8,12 @@ pub mod Rule
 pub mod Forward
 pub mod Undo
 pub mod Accepted
--- what is proved
-pub mod Demands
-pub mod Example
--- acceptance as a test, and that it says what it should
-pub mod Accepting
-pub mod AcceptedTest
--- why: records, events, where contents come from, undone sets, the two steps, loops, rollback, reached
-pub mod Records
-pub mod Events
+-- what the theorems speak of besides
 pub mod Origins
-pub mod Undone
-pub mod Backward
-pub mod Onward
 pub mod Loops
 pub mod Rollback
 pub mod Reached
+-- acceptance as a test
+pub mod Accepting
+-- what is said of one record
+pub mod Records

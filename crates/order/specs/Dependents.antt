@@ -1,9 +1,8 @@
 -- What a set of keys reaches, computed: n rounds, each of which adds what depends directly on a member.
 --
 -- In order: `rounds`, `grow`, `closure`, `dependents`, and the statement `Reached`; n rounds are enough (`closure_closed`); the closure holds
--- the set (`closure_in`) and exactly what it reaches (`closure_iff`), and however it is found, it is this set (`closure_is`); the same of the
--- dependents of one key (`dependents_iff`, `dependents_self`, `dependents_closed`, `dependents_is`); dependents of a dependent
--- (`dependents_of_lem`); dependents stay in a closed set (`dependents_inside`).
+-- the set (`closure_in`) and exactly what it reaches (`closure_iff`), and however it is found, it is this set (`closure_is`). The same of the
+-- dependents of one key is in proofs/Dependents.
 -- Assumes nothing.
 use Rattle.std.specs.Prelude.{◌≡◌, ◌↔◌, true, ◌&&◌, ◌||◌}
 use Prim.Native.Nat.{ℕ, zero, suc, ◌≤◌, ◌<◌, zero-le}
@@ -112,31 +111,3 @@ module _ (n : ℕ) (d : Graph) (over : Over n d) where
   closure_is S T first closed reached =
       same_set T (closure n d S) (λ f m. (closure_iff S f).1 (reached f m))
       (λ f m. let (e, me, r) = (closure_iff S f).0 m in closed_reach T closed r (first e me))
-
-  -- ---- the dependents of one key
-
-  pub dependents_iff : (e f : ℕ) → (f ∈ dependents n d e) ↔ Reach d e f
-  unfolding dependents
-  dependents_iff e f = (
-    λ m. let (a, p, r) = (closure_iff (only e) f).0 m in rw (eqb-true a e p) at r,
-    λ r. (closure_iff (only e) f).1 (e, only_self e, r),
-  )
-
-  pub dependents_self : (e : ℕ) → e ∈ dependents n d e
-  dependents_self e = (dependents_iff e e).1 here
-
-  pub dependents_closed : (e : ℕ) → Closed d (dependents n d e)
-  dependents_closed e f g s m = (dependents_iff e g).1 (reach_more ((dependents_iff e f).0 m) s)
-
-  pub dependents_is : (e : ℕ) (T : Set) → e ∈ T → Closed d T → ((f : ℕ) → f ∈ T → Reach d e f) → T ≡ dependents n d e
-  dependents_is e T first closed reached =
-      same_set T (dependents n d e) (λ f m. (dependents_iff e f).1 (reached f m))
-      (λ f m. closed_reach T closed ((dependents_iff e f).0 m) first)
-
-  -- a dependent's dependents are dependents
-  pub dependents_of_lem : (e f : ℕ) → f ∈ dependents n d e → dependents n d f ⊆ dependents n d e
-  dependents_of_lem e f m g h = (dependents_iff e g).1 (reach_trans ((dependents_iff e f).0 m) ((dependents_iff f g).0 h))
-
-  -- a closed set that has a key has its dependents
-  pub dependents_inside : (S : Set) → Closed d S → (e : ℕ) → e ∈ S → dependents n d e ⊆ S
-  dependents_inside S c e m f h = closed_reach S c ((dependents_iff e f).0 h) m

@@ -5,17 +5,16 @@
 -- (`undoes_trans`), and `UndoesAll` of a set D; `rollback`; `AnyOrder`, which is the statement; steps take last events away (`undoes_accepted`,
 -- `undoes_taken`, `undoes_older`), and wherever that can be done they can (`taken_undoes`); steps in a row are one undoing of a set (`undoes_set`,
 -- `undoes_touched`); for a closed D they never stick (`undo_never_sticks`) and exist (`undo_all`), and for any D they have one count, one end
--- and one touched set (`undo_count`, `undo_end`, `undo_touched`); nobody is undone without its dependents (`undo_none_left_out`);
--- `any_order`, the theorem.
+-- and one touched set (`undo_count`, `undo_end`, `undo_touched`).
 --
--- Not here: what a net is, and that its rules obey these laws; forward steps (`Replay`).
+-- Not here: the theorem (proofs/Undoing); what a net is, and that its rules obey these laws; forward steps (`Replay`).
 -- Assumes nothing.
 use Rattle.std.specs.Prelude.{◌≡◌, refl, ◌↔◌, List, [], ◌∷◌, ◌++◌, ℕ, length}
 use Rattle.std.proofs.Math.Path.{sym, ap}
 use Rattle.std.proofs.Common.{◌∙◌}
 use Rattle.order.specs.KeySets.{Set, ◌∈◌, ◌∉◌, ◌⊆◌, empty, only, ◌∪◌, ◌∖◌, members, count}
 use Rattle.order.specs.Graphs.{Graph, Fewer, Acyclic, Over, Among, among_over, among_closed, among_founded, Closed, closed_reach, Last}
-use Rattle.order.specs.Dependents.{dependents, dependents_iff, dependents_closed, dependents_inside}
+use Rattle.order.specs.Dependents.{dependents}
 use Rattle.order.specs.Taking.{Taken, TakenAll, done, next, taken_in, taken_fewer, last_fewer, never_sticks, all_taken, same_count, take_all, none_left_out}
 
 pub record Undoing (n : ℕ) : Type 1 where
@@ -166,26 +165,3 @@ module _ (n : ℕ) (U : Undoing n) where
 
     pub undo_touched : touched_by a ks ≡ touched a D
     undo_touched = undoes_touched ok w.undoes ∙ ap (touched a) (all_taken there as_taken)
-
-  -- ---- an event and its dependents
-
-  pub undo_none_left_out : {a b : Net} {ks : List ℕ} → Accepted a → Undoes a ks b → (e : ℕ) → e ∈ members ks → dependents_of a e ⊆ members ks
-  undo_none_left_out {a = a} ok r e m f h =
-      let t = undoes_taken ok r in
-      let reach = (dependents_iff n (depends a) (over a ok) e f).0 h in
-      let past : f ∈ events a = closed_reach (events a) (among_closed (U.among a ok)) reach (taken_in t e m) in
-      none_left_out (among_founded (U.among a ok)) t reach past m
-
-  pub any_order : (a : Net) → Accepted a → (e : ℕ) → e ∈ events a → AnyOrder a e
-  any_order a ok e past =
-      let D = dependents_of a e in
-      let closed : Closed (depends a) D = dependents_closed n (depends a) (over a ok) e in
-      let there : D ⊆ events a = dependents_inside n (depends a) (over a ok) (events a) (among_closed (U.among a ok)) e past in
-      record {
-        possible = undo_all a ok D closed;
-        never_sticks = λ ks b r. undo_never_sticks a ok D closed r;
-        none_left_out = λ ks b r. undo_none_left_out ok r e;
-        same_count = λ ks b w. undo_count ok there w;
-        same_end = λ ks b w. undo_end ok there w;
-        same_touched = λ ks b w. undo_touched ok there w;
-      }

@@ -15,8 +15,8 @@ use Rattle.rules.specs.Instance.{rules_of}
 use Rattle.requests.specs.Answers as Theory
 use Rattle.tables.specs.Table.{Step}
 use Rattle.tables.specs.Reversals.{Back}
-use Rattle.tables.specs.Forwards.{step_iff}
-use Rattle.tables.specs.Backwards.{back_iff}
+use Rattle.tables.proofs.Forwards.{step_iff}
+use Rattle.tables.proofs.Backwards.{back_iff}
 use Rattle.machine.specs.Calls.{script_in}
 use Rattle.machine.specs.Bytes.{Held, held_good, held_script}
 use Rattle.machine.specs.Demands.{Done, Images, view_in, bytes_after, forward_request, backward_request, Demand2, demand_2}

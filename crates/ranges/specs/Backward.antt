@@ -24,7 +24,7 @@ use Rattle.nets.specs.Rules.{is_take}
 use Rattle.nets.specs.Net as N
 use Rattle.nets.specs.Net.{consumed, is_past, is_consumed, takes}
 use Rattle.nets.specs.Accepted.{Accepted}
-use Rattle.nets.specs.Events.{take_consumed}
+use Rattle.nets.proofs.Events.{take_consumed}
 use Rattle.nets.specs.Records.{took_of}
 use Rattle.products.specs.Body.{body_of, is_process, is_tuple}
 use Rattle.products.specs.Products

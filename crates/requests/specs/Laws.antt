@@ -20,7 +20,7 @@ use Rattle.nets.specs.Forward.{done, forward, Can}
 use Rattle.nets.specs.Undo.{undo, Undoable}
 use Rattle.nets.specs.Accepted.{Accepted}
 use Rattle.nets.specs.Records.{same_kind}
-use Rattle.nets.specs.Events.{event_below, held_below, read_tuple_lem}
+use Rattle.nets.proofs.Events.{event_below, held_below, read_tuple_lem}
 use Rattle.requests.specs.Checks.{Check, check, refusal, Hold, Numbered, none_fails, all_hold}
 use Rattle.requests.specs.Answers.{Request, in_range, as_needed, no_places, places_of, places, tuple_there, fresh_free, made_stays, can_undo, forward_checks, backward_checks}
 

@@ -1,7 +1,7 @@
--- The rules of 004, Tables VII and X, as relations of nets, and that the steps are exactly these.
+-- The rules of 004, Tables VII and X, as relations of nets; that the steps are exactly these is in proofs/.
 --
--- `Table` and `Reversals` are the two halves of the table, one constructor for each rule, written in the `Terms`. `Forwards`, `Backwards` and `Loop` have
--- the theorems; the others are on the way to them.
+-- `Table` and `Reversals` are the two halves of the table, one constructor for each rule, written in the `Terms`. The others are on the way to the
+-- theorems.
 pub mod Terms
 pub mod Table
 pub mod Reversals
@@ -11,6 +11,3 @@ pub mod Puts
 pub mod Frees
 pub mod Kinds
 pub mod Undoables
-pub mod Forwards
-pub mod Backwards
-pub mod Loop

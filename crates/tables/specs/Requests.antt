@@ -42,7 +42,7 @@ module _ {R : Rules} (n : Net R) (k : ℕ) (b : R.Body) (a : Act) (holds : Holds
         fresh_keys =
             λ j h.
             or_cases (eqb j k') (eqb j k'') (sym (made_two R (n.slot k).body k' k'' none none f'.is_key f''.is_key j) ∙ h)
-            (λ p. ap (λ x. (n.slot x).kind) (eqb-true j k' p) ∙ f'.is_free) (λ p. ap (λ x. (n.slot x).kind) (eqb-true j k'' p) ∙ f''.is_free);
+            (λ p. ap (λ x. (n.slot x).kind) (eqb-true j k' p) ∙ f'.is_free_lem) (λ p. ap (λ x. (n.slot x).kind) (eqb-true j k'' p) ∙ f''.is_free_lem);
         fresh_place = λ h. clash (is_newloc (R.act (n.slot k).body)) h (ap is_newloc act_there ∙ stays);
       }
     where
@@ -75,7 +75,7 @@ module _ {R : Rules} (n : Net R) (k : ℕ) (b : R.Body) (a : Act) (holds : Holds
   -- the one key that is made is free
   one_free : (k' h l : ℕ) → Free n k' → (j : ℕ) → made_key j (memory {R = R} (n.slot k).body k' none h l) ≡ true → (n.slot j).kind ≡ free
   one_free k' h l f' j p =
-      ap (λ x. (n.slot x).kind) (eqb-true j k' (sym (made_one R (n.slot k).body k' none h l f'.is_key j) ∙ p)) ∙ f'.is_free
+      ap (λ x. (n.slot x).kind) (eqb-true j k' (sym (made_one R (n.slot k).body k' none h l f'.is_key j) ∙ p)) ∙ f'.is_free_lem
 
   pub can_tuple : (h k' : ℕ) (t : R.Body) → uses a ≡ true → is_newloc a ≡ false → is_there (second_of a) ≡ false → R.ready b ≡ true
       → R.target b ∈ n.present → h < R.keys → Holds n h tuple t → R.at t ≡ R.target b → R.fits b t ≡ true → Free n k' → Can n (asks_tuple k h k')

@@ -14,7 +14,7 @@ use Rattle.nets.specs.Rule.{met, besides, product, Places}
 use Rattle.nets.specs.Undo.{Undoable}
 use Rattle.nets.specs.Accepted.{Accepted}
 use Rattle.nets.specs.Records.{past_kind, forget_body, forget_live, same_slot_lem, made_first, made_second, took_of, read_of, read_act, read_is}
-use Rattle.nets.specs.Events.{event_below, read_tuple_lem, take_consumed, made_there}
+use Rattle.nets.proofs.Events.{event_below, read_tuple_lem, take_consumed, made_there}
 use Rattle.tables.specs.Terms.{Holds, memory}
 use Rattle.tables.specs.Memories.{made_two, made_one}
 

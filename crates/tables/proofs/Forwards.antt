@@ -115,7 +115,7 @@ module _ (s : Script) (w : ShapedScript s) (range : script_in_range s ≡ true) 
       b = (n.slot r.key).body
 
       abbrev holds : Holds n r.key live b
-      holds = record { kind = can.is_live; body = refl }
+      holds = record { kind = can.is_live_lem; body = refl }
 
       -- a kind with two fresh keys leads to the net that the request of its places leads to; so with the others
       ends_two : (a : Act) → act_of (kind_of s b) ≡ a → uses a ≡ false → Rules.is_newloc a ≡ false → m ≡ forward n (asks_two r.key r.first r.second)

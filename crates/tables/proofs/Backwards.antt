@@ -19,7 +19,7 @@ use Rattle.nets.specs.Rule.{met, besides}
 use Rattle.nets.specs.Undo.{undo, Undoable, Backward}
 use Rattle.nets.specs.Accepted.{Accepted}
 use Rattle.nets.specs.Records.{locality_of_lem}
-use Rattle.nets.specs.Origins.{left_alone}
+use Rattle.nets.proofs.Origins.{left_alone}
 use Rattle.products.specs.Body.{Body}
 use Rattle.products.specs.Products.{kind_of}
 use Rattle.rules.specs.Instance.{rules_of, lawful_of, act_of}

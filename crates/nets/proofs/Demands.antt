@@ -7,27 +7,30 @@ use Rattle.std.specs.Prelude.{◌≡◌, ◌↔◌, Bool, true, ◌&&◌, ℕ, �
 use Rattle.std.proofs.Common.{sym}
 use Rattle.order.specs.KeySets.{Set, ◌∈◌, ◌∪◌, empty, any, count}
 use Rattle.order.specs.Graphs.{Reach, Closed, Last}
-use Rattle.order.specs.Dependents.{dependents_iff}
+use Rattle.order.proofs.Dependents.{dependents_iff}
 use Rattle.nets.specs.Rules.{Rules, Lawful, aims}
 use Rattle.nets.specs.Net.{Net, free_slot, events, held, makes_locality, is_made, depends, dependents, MadeAfter}
 use Rattle.nets.specs.Forward.{Request, forward, Can, Forward}
 use Rattle.nets.specs.Undo.{made_by, undo_set, undo, rollback, undone, touched, Undoable, Backward}
 use Rattle.nets.specs.Accepted.{Bounded, Accepted}
-use Rattle.nets.specs.Events.{over, undoable_last, last_undoable}
-use Rattle.nets.specs.Origins.{concerns, target_concerns, Alone, Reference}
-use Rattle.nets.specs.Origins as O
-use Rattle.nets.specs.Undone.{closed_whole, undo_union, touched_made}
-use Rattle.nets.specs.Backward as B
-use Rattle.nets.specs.Onward as F
+use Rattle.nets.proofs.Events.{over, undoable_last, last_undoable}
+use Rattle.nets.specs.Origins.{concerns, Alone, Reference}
+use Rattle.nets.proofs.Origins.{target_concerns}
+use Rattle.nets.proofs.Origins as O
+use Rattle.nets.proofs.Undone.{closed_whole, undo_union, touched_made}
+use Rattle.nets.proofs.Backward as B
+use Rattle.nets.proofs.Onward as F
 use Rattle.nets.specs.Loops.{again}
-use Rattle.nets.specs.Loops as L
-use Rattle.nets.specs.Rollback as K
-use Rattle.nets.specs.Reached as P
+use Rattle.nets.proofs.Loops as L
+use Rattle.nets.specs.Rollback.{AnyOrder}
+use Rattle.nets.proofs.Rollback as K
+use Rattle.nets.specs.Reached.{Reached}
+use Rattle.nets.proofs.Reached as P
 use Rattle.nets.specs.Accepting.{accepted}
-use Rattle.nets.specs.AcceptedTest.{accepted_test}
+use Rattle.nets.proofs.AcceptedTest.{accepted_test}
 
 -- "Proved: the accepted nets are exactly those that forward steps reach from accepted nets with no past process (004, Definition 1)."
-pub accepted_iff_reached : {R : Rules} → Lawful R → (n : Net R) → Accepted n ↔ P.Reached n
+pub accepted_iff_reached : {R : Rules} → Lawful R → (n : Net R) → Accepted n ↔ Reached n
 accepted_iff_reached lawful n = P.accepted_iff lawful n
 
 -- The test of acceptance says so: true exactly when the net is accepted. It needs a test of equal contents, and a number above all
@@ -129,7 +132,7 @@ module _ {R : Rules} (lawful : Lawful R) (n : Net R) (ok : Accepted n) where
 
   module _ (e : ℕ) (past : e ∈ events n) where
     -- "Take any accepted net and any finished action in it": whoever chooses the backward steps, they are one rollback. Of splits too.
-    pub any_order : K.AnyOrder n e
+    pub any_order : AnyOrder n e
     any_order = K.any_order lawful n ok e past
 
     -- A rollback keeps acceptance.

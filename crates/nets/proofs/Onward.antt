@@ -21,7 +21,7 @@ use Rattle.nets.specs.Forward.{Request, done, after, forward, Can}
 use Rattle.nets.specs.Undo.{Undoable, became_free, touched}
 use Rattle.nets.specs.Accepted.{Formed, Agrees, Root, Accepted}
 use Rattle.nets.specs.Records.{kind_eq, body_eq, live_not_past, live_not_consumed, forget_body, forget_free, forget_live, OfEvents, made_past, made_below, took_past, took_act, took_is, read_act, read_is, locality_past, locality_is, locality_act, locality_makeable, Made, continuation, the_tuple, the_process, made_way, made_live_kind, rule_over, agrees_over}
-use Rattle.nets.specs.Events.{depends_cause, cause_past, held_below, event_below, event_held, take_consumed, read_tuple_lem, take_or_read, made_held, last_undoable}
+use Rattle.nets.proofs.Events.{depends_cause, cause_past, held_below, event_below, event_held, take_consumed, read_tuple_lem, take_or_read, made_held, last_undoable}
 
 module _ {R : Rules} (lawful : Lawful R) (n : Net R) (ok : Accepted n) (r : Request) (can : Can n r) where
   abbrev m : Net R

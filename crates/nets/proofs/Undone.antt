@@ -21,7 +21,7 @@ use Rattle.nets.specs.Net.{made_key_lem, live, tuple, consumed, is_free, is_past
 use Rattle.nets.specs.Undo.{made_by, taken_by, locality_by, again_by, turned, undo_set, became_free, touched}
 use Rattle.nets.specs.Accepted.{Accepted}
 use Rattle.nets.specs.Records.{kind_eq, body_eq, past_kind, forget_again, forget_body, forget_free, forget_not_past, forget_past, forget_consumed, OfEvents, made_past, took_past, locality_past}
-use Rattle.nets.specs.Events.{cause_depends, made_held}
+use Rattle.nets.proofs.Events.{cause_depends, made_held}
 
 -- ---- tests
 

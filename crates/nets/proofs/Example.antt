@@ -20,8 +20,8 @@ use Rattle.nets.specs.Forward.{Request, done, forward, Can}
 use Rattle.nets.specs.Undo.{undone, rollback, touched, undo_set, made_by, taken_by, again_by, locality_by}
 use Rattle.nets.specs.Accepted.{Formed, Accepted}
 use Rattle.nets.specs.Records.{OfEvents, made_past, made_below, made_cases, took_past, locality_past}
-use Rattle.nets.specs.Events.{depends_cause}
-use Rattle.nets.specs.Onward.{forward_accepted}
+use Rattle.nets.proofs.Events.{depends_cause}
+use Rattle.nets.proofs.Onward.{forward_accepted}
 use Rattle.nets.specs.Accepting.{placed, fitting, ruled, once_each, tuples_right, localities_right, roots_right, same_slot, formed, agreed, accepted}
 
 abbrev head_of : List Act → Act

@@ -6,12 +6,12 @@ use Rattle.images.specs.Shape.{ShapedScript}
 use Rattle.images.specs.declared.Script.{Script}
 use Rattle.nets.specs.Net.{Net}
 use Rattle.nets.specs.Accepted.{Accepted}
-use Rattle.nets.specs.Demands.{loop_forward, loop_backward}
+use Rattle.nets.proofs.Demands.{loop_forward, loop_backward}
 use Rattle.rules.specs.Instance.{rules_of, lawful_of}
 use Rattle.tables.specs.Table.{Step}
 use Rattle.tables.specs.Reversals.{Back}
-use Rattle.tables.specs.Forwards.{step_forward, forward_step}
-use Rattle.tables.specs.Backwards.{backward_iff}
+use Rattle.tables.proofs.Forwards.{step_forward, forward_step}
+use Rattle.tables.proofs.Backwards.{backward_iff}
 
 module _ (s : Script) (w : ShapedScript s) (range : script_in_range s ≡ true) where
   -- "(Loop lemma): For all well-formed nets N and M, the following holds: N ↦ M if and only if M ⇝ N."

@@ -15,13 +15,13 @@ use Rattle.laws.specs.Choice.{cases, clash, and_left, and_right, and_both, sameb
 use Rattle.laws.specs.Checks.{all, all_of, all_at}
 use Rattle.order.specs.KeySets.{◌∈◌, ◌∉◌, any, any_of, any_some}
 use Rattle.order.specs.Distinct.{distinct, distinct_apart, apart_distinct}
-use Rattle.order.specs.Peeling.{acyclic_iff}
+use Rattle.order.proofs.Peeling.{acyclic_iff}
 use Rattle.nets.specs.Rules.{Rules, take_uses, none, acts, aims, uses, is_newloc, second_of, is_there}
 use Rattle.nets.specs.Net.{is_held, kind_number, is_live_tuple, Kind, free, live, past, tuple, consumed, is_consumed, Slot, Net, free_slot, fresh, forget, events, held, made_key, took_tuple, made_locality, makes, takes, makes_locality, is_made, is_made_locality, depends}
 use Rattle.nets.specs.Rule.{met, product, Places, Rule}
 use Rattle.nets.specs.Accepted.{Bounded, Formed, Agrees, Root, Accepted}
 use Rattle.nets.specs.Records.{same_kind, OfEvents, same_slot_lem, made_past, made_below, made_cases, took_past, took_act, took_is, locality_past, locality_makeable}
-use Rattle.nets.specs.Events.{bounded_held, bounded_event, bounded_among}
+use Rattle.nets.proofs.Events.{bounded_held, bounded_event, bounded_among}
 use Rattle.nets.specs.Accepting.{ruled, once_each, tuples_right, localities_right, roots_right, same_slot, formed_as, formed, agreed, accepted, placed, fitting}
 
 -- ---- tests together

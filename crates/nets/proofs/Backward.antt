@@ -18,9 +18,9 @@ use Rattle.nets.specs.Net.{is_held, made_tuple, tuple, consumed, is_past, is_con
 use Rattle.nets.specs.Undo.{made_by, taken_by, locality_by, again_by, undo_set, undo, Undoable}
 use Rattle.nets.specs.Accepted.{Formed, Agrees, Root, Accepted}
 use Rattle.nets.specs.Records.{kind_eq, live_not_past, live_not_consumed, forget_not_past, forget_not_consumed, forget_formed, OfEvents, made_past, took_past, locality_past, agrees_over}
-use Rattle.nets.specs.Events.{depends_cause, cause_depends, cause_past, event_below, event_held, among, take_consumed, undoable_last}
-use Rattle.nets.specs.Origins.{target_concerns, locality_needs, locality_event}
-use Rattle.nets.specs.Undone.{Turn, freed, again, same, turn, kept, kept_event, left_alone, forget_kept, body_kept, made_freed}
+use Rattle.nets.proofs.Events.{depends_cause, cause_depends, cause_past, event_below, event_held, among, take_consumed, undoable_last}
+use Rattle.nets.proofs.Origins.{target_concerns, locality_needs, locality_event}
+use Rattle.nets.proofs.Undone.{Turn, freed, again, same, turn, kept, kept_event, left_alone, forget_kept, body_kept, made_freed}
 
 module _ {R : Rules} (lawful : Lawful R) (n : Net R) (ok : Accepted n) (x : ℕ) (u : Undoable n x) where
   abbrev n' : Net R
