@@ -34,7 +34,7 @@ use Rattle.images.specs.declared.Net as Images
 use Rattle.nets.specs.Rules.{acts, uses, none, second_of, is_there}
 use Rattle.nets.specs.Net.{is_free, is_past, is_live_tuple, is_consumed, Slot, Net, events, takes, is_made, depends}
 use Rattle.nets.specs.Records.{took_past}
-use Rattle.nets.specs.Events.{bounded_event}
+use Rattle.nets.proofs.Events.{bounded_event}
 use Rattle.nets.specs.Accepting.{placed, ruled, agreed, once_each}
 use Rattle.nets.specs.Accepting as A
 use Rattle.products.specs.Body.{body_of}

@@ -7,7 +7,8 @@ use Rattle.std.specs.Prelude.{◌≡◌, true, List, [], ◌∷◌, ◌<◌}
 use Rattle.std.proofs.Common.{sym, ap, ◌∙◌}
 use Rattle.laws.specs.Choice.{clash, fails, agree, and_left, and_right, and_both}
 use Rattle.order.specs.Graphs.{Graph, Acyclic, Among, Fewer, acyclic_fewer, among_over, among_closed}
-use Rattle.order.specs.Peeling.{acyclic, acyclic_iff}
+use Rattle.order.specs.Peeling.{acyclic}
+use Rattle.order.proofs.Peeling.{acyclic_iff}
 use Rattle.order.specs.Taking.{done, next, FewerIn, taken_fewer, take_all, emptied}
 use Rattle.names.specs.Names.{key_count}
 use Rattle.names.specs.KeySets.{is_in, excluding, both, is_empty}

@@ -23,7 +23,8 @@ use Rattle.order.specs.KeySets.{Set, ◌∈◌, ◌⊆◌, only, ◌∖◌, minu
 use Rattle.order.specs.KeySets.{count, count_le, count_subset, count_minus, count_some, count_strict}
 use Rattle.order.specs.Words.{word_excluding}
 use Rattle.order.specs.Graphs.{Graph, Acyclic, Among, among_over, Last, last_from}
-use Rattle.order.specs.Peeling.{acyclic, acyclic_iff}
+use Rattle.order.specs.Peeling.{acyclic}
+use Rattle.order.proofs.Peeling.{acyclic_iff}
 use Rattle.order.specs.Taking.{Taken, done, next, taken_trans, taken_left, emptied}
 use Rattle.names.specs.Names.{key_count, key}
 use Rattle.names.specs.KeySets.{is_in, excluding, both, is_empty}

@@ -15,7 +15,7 @@ use Rattle.images.specs.declared.Script.{Script}
 use Rattle.nets.specs.Net.{Net}
 use Rattle.nets.specs.Accepted.{Bounded, Accepted}
 use Rattle.nets.specs.Accepting.{accepted}
-use Rattle.nets.specs.Demands.{accepted_iff_tested}
+use Rattle.nets.proofs.Demands.{accepted_iff_tested}
 use Rattle.products.specs.Body.{Body}
 use Rattle.rules.specs.Instance.{rules_of}
 

@@ -15,7 +15,7 @@ use Rattle.nets.specs.Origins.{Alone, Reference}
 use Rattle.nets.specs.Loops.{again}
 use Rattle.nets.specs.Rollback.{AnyOrder}
 use Rattle.nets.specs.Reached.{Reached}
-use Rattle.nets.specs.Demands as D
+use Rattle.nets.proofs.Demands as D
 use Rattle.rules.specs.Instance.{rules_of, lawful_of}
 use Rattle.rules.specs.Roots.{refers}
 

@@ -35,7 +35,7 @@ use Rattle.nets.specs.Net.{consumed, is_past, is_consumed, events, makes, takes}
 use Rattle.nets.specs.Undo.{Undoable}
 use Rattle.nets.specs.Accepted.{Accepted}
 use Rattle.nets.specs.Records.{made_first, live_not_consumed}
-use Rattle.nets.specs.Events.{event_below, take_consumed}
+use Rattle.nets.proofs.Events.{event_below, take_consumed}
 use Rattle.products.specs.Body.{body_of, fresh, live_tuple}
 use Rattle.products.specs.Products.{is_in}
 use Rattle.rules.specs.Instance.{rules_of}

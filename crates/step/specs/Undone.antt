@@ -34,11 +34,11 @@ use Rattle.nets.specs.Net.{Kind, free, live, past, tuple, consumed, Slot, Net, f
 use Rattle.nets.specs.Rule.{met, Places}
 use Rattle.nets.specs.Accepted.{Formed, Accepted}
 use Rattle.nets.specs.Undo.{made_by, undo, touched, Undoable}
-use Rattle.nets.specs.Demands.{touched_is}
+use Rattle.nets.proofs.Demands.{touched_is}
 use Rattle.nets.specs.Records.{past_kind, forget_past, forget_consumed, made_below, made_cases, made_first, made_second, took_act, took_is, took_of}
-use Rattle.nets.specs.Events as E
-use Rattle.nets.specs.Events.{take_consumed}
-use Rattle.nets.specs.Backward as B
+use Rattle.nets.proofs.Events as E
+use Rattle.nets.proofs.Events.{take_consumed}
+use Rattle.nets.proofs.Backward as B
 use Rattle.products.specs.Body.{Body, body_of, live_process, live_tuple}
 use Rattle.products.specs.Products
 use Rattle.rules.specs.Instance.{act_of, makeable, rules_of, lawful_of}

@@ -34,7 +34,7 @@ use Rattle.nets.specs.Rule.{met, product}
 use Rattle.nets.specs.Undo.{Undoable}
 use Rattle.nets.specs.Accepted.{Accepted}
 use Rattle.nets.specs.Records.{kind_eq, made_below, made_cases, made_first, made_second, took_past, took_is, read_act, read_is, read_of, forget_tuple, Made, continuation, the_tuple, the_process}
-use Rattle.nets.specs.Events.{cause_depends, depends_cause, event_below, take_consumed, made_there, made_as, undoable_last, last_undoable}
+use Rattle.nets.proofs.Events.{cause_depends, depends_cause, event_below, take_consumed, made_there, made_as, undoable_last, last_undoable}
 use Rattle.rules.specs.Instance.{rules_of}
 use Rattle.rules.specs.Acts as Acts
 use Rattle.rules.specs.View.{view, slot_view, view_slot, view_with, live_is, past_is, consumed_is}

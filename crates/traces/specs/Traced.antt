@@ -30,7 +30,7 @@ use Rattle.nets.specs.Rules.{Rules, none, number, uses, is_take, is_read, read_u
 use Rattle.nets.specs.Net.{is_past, Slot, Net, events, made_key, took_tuple, read_tuple, made_locality, makes, takes, reads, makes_locality, is_made, is_made_locality, depends, Cause, made_key_lem, made_tuple, read_before}
 use Rattle.nets.specs.Rule.{Places}
 use Rattle.nets.specs.Records.{made_below, made_cases, made_first, made_second, took_past, took_is, took_of, read_past, read_act, read_is, read_of}
-use Rattle.nets.specs.Events.{cause_depends, depends_cause, cause_past}
+use Rattle.nets.proofs.Events.{cause_depends, depends_cause, cause_past}
 use Rattle.products.specs.Body.{body_of}
 use Rattle.products.specs.Products.{kind_of}
 use Rattle.rules.specs.Instance.{rules_of, act, same_kind}
