@@ -8,7 +8,7 @@ use Rattle.order.specs.KeySets.{any}
 use Rattle.order.specs.Words.{word_of}
 use Rattle.names.specs.Names.{key_count, locality_count, none, below_or_none}
 use Rattle.nets.specs.Rules.{Rules, Act, number, acts, uses, aims, is_newloc, is_split, second_of, is_there}
-use Rattle.nets.specs.Net.{is_free, is_live, is_past, is_live_tuple, Slot, Net, events, makes, reads}
+use Rattle.nets.specs.Net.{is_free, is_live, is_past, is_live_tuple, Slot, Net, makes, reads}
 use Rattle.nets.specs.Forward as Forward
 use Rattle.nets.specs.Forward.{forward}
 use Rattle.nets.specs.Undo as Undo

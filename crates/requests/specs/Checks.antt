@@ -4,7 +4,7 @@
 -- Assumes nothing.
 use Rattle.std.specs.Prelude.{ℕ, ◌≡◌, refl, ◌↔◌, List, [], ◌∷◌, ◌++◌, Bool, true, false}
 use Rattle.std.proofs.Common.{ap, sym, ◌∙◌}
-use Rattle.laws.specs.Choice.{pick, cases, clash}
+use Rattle.laws.specs.Choice.{pick, cases}
 
 -- a check of document 01's table: its number, and whether what it asks holds
 pub record Check : Type 0 where

@@ -2,27 +2,27 @@
 -- event may be undone. (Check 3 first: the request is in range.)
 -- In order: a request in range, place by place (`Ranged`); forward (`forward_can`, `can_forward`); backward (`undo_can`, `can_undo_lem`).
 -- Assumes nothing.
-use Rattle.std.specs.Prelude.{ℕ, ◌<◌, ◌≤◌, ◌≡◌, ◌⊎◌, List, [], ◌∷◌, Bool, false, ◌&&◌, ◌||◌, eqb, ltb, leb}
+use Rattle.std.specs.Prelude.{ℕ, ◌<◌, ◌≤◌, ◌≡◌, ◌⊎◌, Bool, false, ◌&&◌, ◌||◌, eqb, ltb, leb}
 use Rattle.std.proofs.Math.Path.{refl, ap, subst}
 use Rattle.std.proofs.Common.{sym, ◌∙◌, inl, inr, ⊎_elim}
 use Rattle.std.proofs.Math.Bool.{true, not}
 use native.Mathlib.Omega.{arith}
-use borrow.Author.Tests.{eqb-true, eqb-false, eq-eqb, ne_eqb, ltb-true, lt-ltb, leb-true, not-true, not-false}
-use Rattle.laws.specs.Choice.{pick, cases, clash, and_left, and_right, and_both, sameb, sameb_eq, or_left, or_right, or_cases, fails, ◌⇒◌, told, tells}
+use borrow.Author.Tests.{eqb-true, eq-eqb, ne_eqb, ltb-true, lt-ltb, not-true, not-false}
+use Rattle.laws.specs.Choice.{cases, clash, and_left, and_right, and_both, or_left, or_right, or_cases, fails, ◌⇒◌, told, tells}
 use Rattle.laws.specs.Checks.{all, all_of, all_at}
-use Rattle.order.specs.KeySets.{Set, ◌∈◌, ◌∉◌, any, any_of, any_some, any_not}
+use Rattle.order.specs.KeySets.{◌∈◌, any, any_of, any_not}
 use Rattle.names.specs.Names.{key_count, locality_count, none, below_or_none}
-use Rattle.nets.specs.Rules.{Rules, Act, number, acts, uses, aims, is_newloc, is_split, second_of, is_there}
-use Rattle.nets.specs.Net.{Kind, free, live, past, tuple, consumed, is_free, is_live, is_past, is_live_tuple, Slot, Net, forget_as, forget, events, made_key, read_tuple, makes, reads}
+use Rattle.nets.specs.Rules.{Rules, Act, acts, uses, aims, is_newloc, second_of, is_there}
+use Rattle.nets.specs.Net.{Kind, free, live, tuple, consumed, is_free, is_live, is_live_tuple, Slot, Net, forget_as, events, made_key, read_tuple, makes, reads}
 use Rattle.nets.specs.Rule.{met, Places, Rule}
 use Rattle.nets.specs.Forward as Forward
 use Rattle.nets.specs.Forward.{done, forward, Can}
-use Rattle.nets.specs.Undo.{undo, Undoable}
+use Rattle.nets.specs.Undo.{Undoable}
 use Rattle.nets.specs.Accepted.{Accepted}
 use Rattle.nets.specs.Records.{same_kind}
 use Rattle.nets.proofs.Events.{event_below, held_below, read_tuple_lem}
-use Rattle.requests.specs.Checks.{Check, check, refusal, Hold, Numbered, none_fails, all_hold}
-use Rattle.requests.specs.Answers.{Request, in_range, as_needed, no_places, places_of, places, tuple_there, fresh_free, made_stays, can_undo, forward_checks, backward_checks}
+use Rattle.requests.specs.Checks.{refusal, none_fails, all_hold}
+use Rattle.requests.specs.Answers.{Request, in_range, as_needed, places_of, places, tuple_there, fresh_free, made_stays, can_undo, forward_checks}
 
 -- ---- places
 
@@ -208,7 +208,7 @@ module _ {R : Rules} (rolled : R.Body → ℕ) (keys : R.keys ≡ key_count) (un
     the_can : Can n q
     the_can =
         record {
-          is_live_lem = same_kind x.kind live c.is_live;
+          is_live_lem = same_kind x.kind live c.is_live_lem;
           rule = the_rule;
           tuple_live = there_tuple;
           fresh_keys = fresh_key;
@@ -283,7 +283,7 @@ module _ {R : Rules} (rolled : R.Body → ℕ) (keys : R.keys ≡ key_count) (un
   unfolding forward_checks
   can_forward can =
       none_fails (forward_checks rolled n r) (
-        ap is_live can.is_live,
+        ap is_live can.is_live_lem,
         (
           can.rule.acting,
           (

@@ -19,9 +19,7 @@ use Rattle.requests.specs.Checks as C
 use Rattle.requests.specs.Answers as A
 use Rattle.requests.specs.declared.Request.{Request}
 use Rattle.requests.specs.declared.RequestRead.{RequestRead}
-use Rattle.requests.specs.declared.RequestRead.TheVariants as RequestRead
 use Rattle.requests.specs.declared.Answer.{Answer}
-use Rattle.requests.specs.declared.Answer.TheVariants as Answer
 use Rattle.requests.specs.declared.Told.{Told}
 
 -- ---- answers

@@ -1,5 +1,6 @@
 // A request, as its six bytes say, and what a call tells: the answers that it may give, and the numbers beside them.
 #![tactic(auto)]
+
 ghost use Rattle.std.specs.Prelude.{◌≡◌};
 ghost use Rattle.requests.specs.Requests.{number, refusal, read_request};
 

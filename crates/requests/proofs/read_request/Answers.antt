@@ -16,79 +16,58 @@ returns-then-b-gt-ROLL c = rw (eq-eqb _ _ c.if-b-ne-SIZE.false, lt-leb _ _ c.if-
 pub returns-in_default : goal.returns-in_default
 unfolding read_request in_range
 returns-in_default c =
-    let code = c.before.before.before.before in
     rw (
-      eq-eqb _ _ code.before.before.if1.false,
-      le-leb _ _ code.if2.false,
+      eq-eqb _ _ c.if-b-ne-SIZE.false,
+      le-leb _ _ c.if-b-gt-ROLL.false,
       key_bad _ (sym c.in_default.is ∙ c.of_byte.ensures),
     )
 
 pub returns-in_default-or_none : goal.returns-in_default-or_none
 unfolding read_request in_range
 returns-in_default-or_none c =
-    let key = c.before.before.before.before.before in
-    let code = key.before.before.before.before in
     rw (
-      eq-eqb _ _ code.before.before.if1.false,
-      le-leb _ _ code.if2.false,
-      (key_read _ _ (sym key.key.given.1 ∙ key.before.before.of-byte.ensures)).1,
+      eq-eqb _ _ c.if-b-ne-SIZE.false,
+      le-leb _ _ c.if-b-gt-ROLL.false,
+      (key_read _ _ (sym c.in-Key.is ∙ c.of_byte.ensures)).1,
       key_or_none_bad _ (sym c.in_default-or_none.is ∙ c.or_none.ensures),
     )
 
 pub returns-in_default-or_none-2 : goal.returns-in_default-or_none-2
 unfolding read_request in_range
 returns-in_default-or_none-2 c =
-    let used = c.before.before.before.before.before in
-    let key = used.before.before.before.before.before in
-    let code = key.before.before.before.before in
     rw (
-      eq-eqb _ _ code.before.before.if1.false,
-      le-leb _ _ code.if2.false,
-      (key_read _ _ (sym key.key.given.1 ∙ key.before.before.of-byte.ensures)).1,
-      (key_or_none_read _ _ (sym used.used.given.1 ∙ used.before.before.or-none.ensures)).1,
+      eq-eqb _ _ c.if-b-ne-SIZE.false,
+      le-leb _ _ c.if-b-gt-ROLL.false,
+      (key_read _ _ (sym c.in-Key.is ∙ c.of_byte.ensures)).1,
+      (key_or_none_read _ _ (sym c.in-Key-or_none.is ∙ c.or_none.ensures)).1,
       key_or_none_bad _ (sym c.in_default-or_none-2.is ∙ c.or_none-2.ensures),
     )
 
 pub returns-in_default-or_none-3 : goal.returns-in_default-or_none-3
 unfolding read_request in_range
 returns-in_default-or_none-3 c =
-    let first = c.before.before.before.before.before in
-    let used = first.before.before.before.before.before in
-    let key = used.before.before.before.before.before in
-    let code = key.before.before.before.before in
     rw (
-      eq-eqb _ _ code.before.before.if1.false,
-      le-leb _ _ code.if2.false,
-      (key_read _ _ (sym key.key.given.1 ∙ key.before.before.of-byte.ensures)).1,
-      (key_or_none_read _ _ (sym used.used.given.1 ∙ used.before.before.or-none.ensures)).1,
-      (key_or_none_read _ _ (sym first.first.given.1 ∙ first.before.before.or-none2.ensures)).1,
+      eq-eqb _ _ c.if-b-ne-SIZE.false,
+      le-leb _ _ c.if-b-gt-ROLL.false,
+      (key_read _ _ (sym c.in-Key.is ∙ c.of_byte.ensures)).1,
+      (key_or_none_read _ _ (sym c.in-Key-or_none.is ∙ c.or_none.ensures)).1,
+      (key_or_none_read _ _ (sym c.in-Key-or_none-2.is ∙ c.or_none-2.ensures)).1,
       key_or_none_bad _ (sym c.in_default-or_none-3.is ∙ c.or_none-3.ensures),
     )
 
 pub returns-in_default-or_none-4 : goal.returns-in_default-or_none-4
 unfolding read_request in_range
 returns-in_default-or_none-4 c =
-    let second = c.before.before.before.before.before in
-    let first = second.before.before.before.before.before in
-    let used = first.before.before.before.before.before in
-    let key = used.before.before.before.before.before in
-    let code = key.before.before.before.before in
     rw (
-      eq-eqb _ _ code.before.before.if1.false,
-      le-leb _ _ code.if2.false,
-      (key_read _ _ (sym key.key.given.1 ∙ key.before.before.of-byte.ensures)).1,
-      (key_or_none_read _ _ (sym used.used.given.1 ∙ used.before.before.or-none.ensures)).1,
-      (key_or_none_read _ _ (sym first.first.given.1 ∙ first.before.before.or-none2.ensures)).1,
-      (key_or_none_read _ _ (sym second.second.given.1 ∙ second.before.before.or-none3.ensures)).1,
+      eq-eqb _ _ c.if-b-ne-SIZE.false,
+      le-leb _ _ c.if-b-gt-ROLL.false,
+      (key_read _ _ (sym c.in-Key.is ∙ c.of_byte.ensures)).1,
+      (key_or_none_read _ _ (sym c.in-Key-or_none.is ∙ c.or_none.ensures)).1,
+      (key_or_none_read _ _ (sym c.in-Key-or_none-2.is ∙ c.or_none-2.ensures)).1,
+      (key_or_none_read _ _ (sym c.in-Key-or_none-3.is ∙ c.or_none-3.ensures)).1,
       locality_or_none_bad _ (sym c.in_default-or_none-4.is ∙ c.or_none-4.ensures),
     )
 
 pub returns : goal.returns
 returns c =
-    let place = c.before.before in
-    let second = place.before.before.before.before.before in
-    let first = second.before.before.before.before.before in
-    let used = first.before.before.before.before.before in
-    let key = used.before.before.before.before.before in
-    let code = key.before.before.before.before in
-    request_read _ _ _ _ _ _ code.before.before.if1.false code.if2.false (sym key.key.given.1 ∙ key.before.before.of-byte.ensures) (sym used.used.given.1 ∙ used.before.before.or-none.ensures) (sym first.first.given.1 ∙ first.before.before.or-none2.ensures) (sym second.second.given.1 ∙ second.before.before.or-none3.ensures) (sym place.place.given.1 ∙ place.before.before.or-none4.ensures)
+    request_read _ _ _ _ _ _ c.if-b-ne-SIZE.false c.if-b-gt-ROLL.false (sym c.in-Key.is ∙ c.of_byte.ensures) (sym c.in-Key-or_none.is ∙ c.or_none.ensures) (sym c.in-Key-or_none-2.is ∙ c.or_none-2.ensures) (sym c.in-Key-or_none-3.is ∙ c.or_none-3.ensures) (sym c.in-Locality.is ∙ c.or_none-4.ensures)
