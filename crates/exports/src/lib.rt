@@ -1,6 +1,7 @@
 // The calls of the machine for other languages: a slice comes as a pointer and a length, and what is told goes back as one word. Nothing is
 // asked of a caller beyond that, and nothing is kept between calls. include/rewind.h says it in C.
 #![tactic(auto)]
+
 ghost use Rattle.std.specs.Prelude.{◌≡◌};
 ghost use Rattle.requests.specs.Requests.{number};
 ghost use Rattle.machine.specs.Calls.{reply};

@@ -1,6 +1,7 @@
 // The public calls: script, net and request are any byte strings. Checks run in number order; the lent net is written only where a call is
 // done, so a refusal leaves every byte.
 #![tactic(auto)]
+
 ghost use Rattle.std.specs.Prelude.{◌≡◌, true};
 ghost use Rattle.requests.specs.Answers.{in_range};
 ghost use Rattle.requests.specs.Requests.{asked};

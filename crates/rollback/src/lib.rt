@@ -1,6 +1,7 @@
 // Rollback of an event with all its dependents, and roll by a live process, in the lent bytes of images that are good. Both stand on the step's
 // promise for the undoing of one event, and see none of its code.
 #![tactic(auto)]
+
 ghost use Rattle.std.specs.Prelude.{◌≡◌, true, not};
 ghost use Rattle.std.specs.Int.Bits.{bit_or};
 ghost use Rattle.order.specs.KeySets.{◌∈◌};

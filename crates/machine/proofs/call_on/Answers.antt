@@ -10,4 +10,4 @@ pub serve-requires : goal.serve-requires
 serve-requires c = (c.requires, read_in_range c.args.request.now _ (sym c.in-Request.is ∙ c.read_request-asked.ensures))
 
 pub returns : goal.returns
-returns c = good_replies c.args.script.now c.args.net.now c.args.request.now c.requires _ _ (request_good (script_in c.args.script.now) (net_in c.args.net.now) c.args.net.now c.args.request.now _ (sym c.in-Request.is ∙ c.read_request-asked.ensures) _ _ c.serve.ensures)
+returns c = good_replies c.args.script.now c.args.net.now c.args.request.now c.requires _ _ (request_good (script_in c.args.script.now) (net_in c.args.net.now) c.args.net.now c.args.request.now _ (sym c.in-Request.is ∙ c.read_request-asked.ensures) _ _ (c.serve.ensures.value, c.serve.ensures.net_after))

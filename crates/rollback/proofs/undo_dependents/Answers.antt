@@ -56,17 +56,6 @@ overflow_add-undone c =
     let g = c.loop-f.invariant.1 w good past in
     omega (arith, walk_few s w n good e past _ _ _ _ g _ c.in_the_way-way.ensures c.in-Clear.is)
 
--- was same_length
---     let s = script_of c.before.before.before.before.before.before.before.before.before.before.before.before.before.before.before.before.args.script.now in
---     let w = (shaped_script c.before.before.before.before.before.before.before.before.before.before.before.before.before.before.before.before.args.script.now (λ i. (c.before.before.before.before.before.before.before.before.before.before.before.before.before.before.before.shared-slice-known.given i).fits)) in
---     let n = (net_of c.before.before.before.before.before.before.before.before.before.before.before.before.before.before.before.before.args.net.now) in
---     let e = c.before.before.before.before.before.before.before.before.before.before.before.before.before.before.before.before.args.e in
---     let good = c.before.before.before.before.before.before.before.before.before.before.before.before.before.before.before.before.requires.0.good in
---     let past = c.before.before.before.before.before.before.before.before.before.before.before.before.before.before.before.before.requires.1 in
---     let g = c.before.before.before.before.before.before.before.before.before.before.before.before.before.loop.invariant.1 w good past in
---     let all = walk_done s w n good e past _ _ _ _ g _ c.before.before.before.before.before.before.before.before.before.before.before.in-the-way.ensures c.before.before.before.before.before.before.before.before.before.enum_told.given.1 _ _ c.before.before.before.before.before.before.before.undo.ensures _ c.before.before.before.before.touched-too.ensures c.before.if1.true _ c.done.ensures in
---     ap length all.1 ∙ length_net _ ∙ sym (net_sized _ c.before.before.before.before.before.before.before.before.before.before.before.before.before.before.before.before.requires.0.formed)
-
 pub returns-then-k-e : goal.returns-then-k-e
 returns-then-k-e c =
     let s = script_of c.args.script.now in
@@ -76,7 +65,8 @@ returns-then-k-e c =
     let good = c.requires.0.good in
     let past = c.requires.1 in
     let g = c.loop-f.invariant.1 w good past in
-    walk_done s w n good e past _ _ _ _ g _ c.in_the_way-way.ensures c.in-Clear.is _ _ c.undo-freed.ensures _ c.touched_too-touched.ensures c.if-k-e.true _ c.done.ensures
+    let h = walk_done s w n good e past _ _ _ _ g _ c.in_the_way-way.ensures c.in-Clear.is _ _ (c.undo-freed.ensures.value, c.undo-freed.ensures.net_after) _ c.touched_too-touched.ensures c.if-k-e.true _ c.done.ensures in
+    record { value = h.0; net_after = h.1 }
 
 pub loop-f-smaller : goal.loop-f-smaller
 loop-f-smaller c =
@@ -98,11 +88,11 @@ loop-f-preserved c =
     let good = c.requires.0.good in
     let past = c.requires.1 in
     let g = c.loop-f.invariant.1 w good past in
-    let next = walk_next s w n good e past _ _ _ _ g _ c.in_the_way-way.ensures c.in-Clear.is _ _ c.undo-freed.ensures _ c.touched_too-touched.ensures c.if-k-e.false in (
+    let next = walk_next s w n good e past _ _ _ _ g _ c.in_the_way-way.ensures c.in-Clear.is _ _ (c.undo-freed.ensures.value, c.undo-freed.ensures.net_after) _ c.touched_too-touched.ensures c.if-k-e.false in (
       record {
         size = c.requires.0.size;
         formed = walk_form s w n good e past _ _ _ _ next;
         good = walk_good s w n good e past _ _ _ _ next;
       },
-      λ w good past. walk_next _ w _ good _ past _ _ _ _ (c.loop-f.invariant.1 w good past) _ c.in_the_way-way.ensures c.in-Clear.is _ _ c.undo-freed.ensures _ c.touched_too-touched.ensures c.if-k-e.false,
+      λ w good past. walk_next _ w _ good _ past _ _ _ _ (c.loop-f.invariant.1 w good past) _ c.in_the_way-way.ensures c.in-Clear.is _ _ (c.undo-freed.ensures.value, c.undo-freed.ensures.net_after) _ c.touched_too-touched.ensures c.if-k-e.false,
     )
