@@ -27,9 +27,9 @@ use Rattle.nets.specs.Forward.{done, forward, Can}
 use Rattle.nets.specs.Undo as Undo
 use Rattle.nets.specs.Undo.{undo, rollback, touched, Undoable}
 use Rattle.nets.specs.Accepted.{Accepted}
-use Rattle.nets.specs.Events.{held_below, event_below}
+use Rattle.nets.proofs.Events.{held_below, event_below}
 use Rattle.nets.specs.Loops.{again}
-use Rattle.nets.specs.Demands as Nets
+use Rattle.nets.proofs.Demands as Nets
 use Rattle.rules.specs.Instance.{rules_of, lawful_of}
 use Rattle.rules.specs.Roots.{rolled_by}
 use Rattle.rules.specs.View.{view, slot_view, view_slot}

@@ -91,7 +91,7 @@ module _ (s : Script) (w : ShapedScript s) (in-form : script_in_range s ≡ true
   a = action s b
 
   process : is_process b ≡ true
-  process = live_process_lem x x-in c.is_live
+  process = live_process_lem x x-in c.is_live_lem
 
   next_in : InRange (live_process (continued_by a r.key b t.contents r.place))
   next_in =
@@ -144,7 +144,7 @@ module _ (s : Script) (w : ShapedScript s) (in-form : script_in_range s ≡ true
       let met-in = slot_with_lem InRange n (range_each n good) free_in_range_lem r.used in
       -- a process in range is at a node of the script
       let node : node_with s at.node ≡ action s (body_of at) =
-      node_is s at.node (process_node (body_of at) (live_process_lem at at_in checks.is_live)) in
+      node_is s at.node (process_node (body_of at) (live_process_lem at at_in checks.is_live_lem)) in
       let there = subst (λ (a : Action). Passed a at met r) node checks in
       applied_in_range n (forward_done (node_with s at.node) at met n.present r) good
       (subst (λ (a : Action). Puts InRange (forward_done a at met n.present r)) (sym node)

@@ -17,9 +17,10 @@ use Rattle.laws.specs.Sets.{member_or, member_empty}
 use Rattle.order.specs.KeySets.{Set, ◌∈◌, ◌∉◌, ◌⊆◌, empty, only, only_self, ◌∪◌, ◌∖◌, members, members_append, minus_out, in_minus, count, count_le, count_strict}
 use Rattle.order.specs.Words.{word_of, word_of_is, word_of_in, word_of_lt}
 use Rattle.order.specs.Graphs.{reach_fewer}
-use Rattle.order.specs.Dependents.{dependents_iff, dependents_self, dependents_closed, dependents_of_lem}
+use Rattle.order.proofs.Dependents.{dependents_iff, dependents_self, dependents_closed, dependents_of_lem}
 use Rattle.order.specs.Taking.{taken_left, taken_length}
-use Rattle.order.specs.Undoing.{Undoing, Undoes, UndoesAll, stay, back, touched_by, undoes_trans, undoes_accepted, undoes_taken, undoes_older, undo_count, undo_end, undo_touched, undo_none_left_out}
+use Rattle.order.specs.Undoing.{Undoing, Undoes, UndoesAll, stay, back, touched_by, undoes_trans, undoes_accepted, undoes_taken, undoes_older, undo_count, undo_end, undo_touched}
+use Rattle.order.proofs.Undoing.{undo_none_left_out}
 use Rattle.names.specs.Names.{key_count, locality_count}
 use Rattle.names.specs.Localities.{localities}
 use Rattle.names.specs.declared.Key.{Key}
@@ -29,10 +30,10 @@ use Rattle.images.specs.Shape.{ShapedScript, ShapedNet}
 use Rattle.images.specs.declared.Script.{Script}
 use Rattle.images.specs.declared.Net as Images
 use Rattle.nets.specs.Net.{Net, events, depends, dependents}
-use Rattle.nets.specs.Events.{among, over}
+use Rattle.nets.proofs.Events.{among, over}
 use Rattle.nets.specs.Undo.{undo, undo_set, touched, Undoable}
 use Rattle.nets.specs.Accepted.{Accepted}
-use Rattle.nets.specs.Rollback.{undoing, dependents_past}
+use Rattle.nets.proofs.Rollback.{undoing, dependents_past}
 use Rattle.rules.specs.Instance.{rules_of, lawful_of}
 use Rattle.rules.specs.View.{view}
 use Rattle.rules.specs.Image.{image_of, image_view}
