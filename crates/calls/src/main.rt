@@ -2,10 +2,13 @@
 // any length; 'P' a change of one byte of the net, 'B' the net as it was given; 'C' a call, 'F' the finder, 'K' the least free key, 'L' the least
 // absent locality. Each of the last four prints a line.
 #![tactic(auto)]
-use libc::{STDIN_FILENO, STDOUT_FILENO};
+
+ghost use Rattle.std.specs.Io.{ReadsAtMost};
+
 use machine::asks::{find, free_key, free_locality};
 use machine::call;
 use requests::{Answer, Told, number};
+use std::io::{self, Read};
 
 // Room for a script or a net.
 const ROOM: usize = 4096;
@@ -51,126 +54,147 @@ fn crc(bytes: &[u8]) -> u32 {
 
 // ---- lines
 
-fn print_told(t: Told, sum: u32) {
-    let answer = t.answer;
-    let touched = t.touched;
-    io::write_all(STDOUT_FILENO, b"C ");
-    io::print_decimal(STDOUT_FILENO, number(answer) as u64);
-    io::write_all(STDOUT_FILENO, b" ");
-    io::print_decimal(STDOUT_FILENO, t.undone as u64);
-    io::write_all(STDOUT_FILENO, b" ");
-    io::print_hex(STDOUT_FILENO, touched.0 as u64, 8);
-    io::write_all(STDOUT_FILENO, b" ");
-    io::print_hex(STDOUT_FILENO, sum as u64, 8);
-    io::write_all(STDOUT_FILENO, b"\n");
+fn print_told(rt: &impl Print, t: Told, sum: u32) -> io::Result<()> {
+    let answer = number(t.answer);
+    let undone = t.undone;
+    let touched = t.touched.0;
+    println!(rt; "C {answer} {undone} {touched:08x} {sum:08x}")
 }
 
-fn print_found(answer: Answer, name: u8) {
-    io::write_all(STDOUT_FILENO, b" ");
-    io::print_decimal(STDOUT_FILENO, number(answer) as u64);
-    io::write_all(STDOUT_FILENO, b" ");
-    io::print_decimal(STDOUT_FILENO, name as u64);
-    io::write_all(STDOUT_FILENO, b"\n");
+// What was asked for, in a letter, and what was found.
+fn print_found(rt: &impl Print, what: char, answer: Answer, name: u8) -> io::Result<()> {
+    let answer = number(answer);
+    println!(rt; "{what} {answer} {name}")
+}
+
+// ---- input
+
+// Reads until the room is full or the input ends; how many bytes it put at the front.
+fn read_full(input: &mut impl Read, room: &mut [u8]) -> io::Result<usize>
+    ensures { ReadsAtMost result room.new }
+{
+    let mut done = 0;
+    while done < room.len() {
+        let n = input.read(&mut room[done..])?;
+        if n == 0 {
+            break;
+        }
+        done += n;
+    }
+    Ok(done)
 }
 
 // ---- questions
 
-fn ask_call(script: &[u8], net: &mut [u8], request: &[u8]) {
+fn ask_call(rt: &impl Print, script: &[u8], net: &mut [u8], request: &[u8]) -> io::Result<()> {
     let t = call(script, net, request);
     let sum = crc(net);
-    print_told(t, sum);
+    print_told(rt, t, sum)
 }
 
 // A length byte of at most 16, and so many bytes of a request; whether they were there.
-fn read_call(script: &[u8], net: &mut [u8]) -> bool {
+fn read_call(
+    rt: &impl Print,
+    input: &mut impl Read,
+    script: &[u8],
+    net: &mut [u8],
+) -> io::Result<bool> {
     let mut size_space = [0u8; 1];
     let size: &mut [u8] = &mut size_space;
-    if io::read_full(STDIN_FILENO, size) < 1 {
-        return false;
+    if read_full(input, size)? < 1 {
+        return Ok(false);
     }
     let length = laws::word_of(size[0], 0, 0, 0) as usize;
     if 16 < length {
-        return false;
+        return Ok(false);
     }
     let mut space = [0u8; 16];
     let room: &mut [u8] = &mut space;
     let request = &mut room[0..length];
-    if io::read_full(STDIN_FILENO, request) < length {
-        return false;
+    if read_full(input, request)? < length {
+        return Ok(false);
     }
-    ask_call(script, net, request);
-    true
+    ask_call(rt, script, net, request)?;
+    Ok(true)
 }
 
-fn read_find(script: &[u8], net: &[u8]) -> bool {
+fn read_find(
+    rt: &impl Print,
+    input: &mut impl Read,
+    script: &[u8],
+    net: &[u8],
+) -> io::Result<bool> {
     let mut space = [0u8; 1];
     let key: &mut [u8] = &mut space;
-    if io::read_full(STDIN_FILENO, key) < 1 {
-        return false;
+    if read_full(input, key)? < 1 {
+        return Ok(false);
     }
     let f = find(script, net, key[0]);
     let answer = f.answer;
-    io::write_all(STDOUT_FILENO, b"F");
-    print_found(answer, f.key.0);
-    true
+    print_found(rt, 'F', answer, f.key.0)?;
+    Ok(true)
 }
 
-fn ask_free_key(script: &[u8], net: &[u8]) {
+fn ask_free_key(rt: &impl Print, script: &[u8], net: &[u8]) -> io::Result<()> {
     let f = free_key(script, net);
     let answer = f.answer;
-    io::write_all(STDOUT_FILENO, b"K");
-    print_found(answer, f.key.0);
+    print_found(rt, 'K', answer, f.key.0)
 }
 
-fn ask_free_locality(script: &[u8], net: &[u8]) {
+fn ask_free_locality(rt: &impl Print, script: &[u8], net: &[u8]) -> io::Result<()> {
     let f = free_locality(script, net);
     let answer = f.answer;
-    io::write_all(STDOUT_FILENO, b"L");
-    print_found(answer, f.locality.0);
+    print_found(rt, 'L', answer, f.locality.0)
 }
 
 // A question to script and net; whether there may be more items.
-fn question(what: u8, script: &[u8], net: &mut [u8]) -> bool {
+fn question(
+    rt: &impl Print,
+    input: &mut impl Read,
+    what: u8,
+    script: &[u8],
+    net: &mut [u8],
+) -> io::Result<bool> {
     if what == b'C' {
-        return read_call(script, net);
+        return read_call(rt, input, script, net);
     }
     if what == b'F' {
-        return read_find(script, net);
+        return read_find(rt, input, script, net);
     }
     if what == b'K' {
-        ask_free_key(script, net);
-        return true;
+        ask_free_key(rt, script, net)?;
+        return Ok(true);
     }
     if what == b'L' {
-        ask_free_locality(script, net);
-        return true;
+        ask_free_locality(rt, script, net)?;
+        return Ok(true);
     }
-    false
+    Ok(false)
 }
 
 // ---- the stream
 
 // A 16-bit number, or one above all of them where the input ends.
-fn read_number() -> usize {
+fn read_number(input: &mut impl Read) -> io::Result<usize> {
     let mut space = [0u8; 2];
     let two: &mut [u8] = &mut space;
-    if io::read_full(STDIN_FILENO, two) < 2 {
-        return 65536;
+    if read_full(input, two)? < 2 {
+        return Ok(65536);
     }
-    laws::word_of(two[0], two[1], 0, 0) as usize
+    Ok(laws::word_of(two[0], two[1], 0, 0) as usize)
 }
 
 // A length and so many bytes into the room; the length, or one above the room's where they were not there.
-fn read_image(room: &mut [u8]) -> usize {
-    let length = read_number();
+fn read_image(input: &mut impl Read, room: &mut [u8]) -> io::Result<usize> {
+    let length = read_number(input)?;
     if room.len() < length {
-        return 65536;
+        return Ok(65536);
     }
     let part = &mut room[0..length];
-    if io::read_full(STDIN_FILENO, part) < length {
-        return 65536;
+    if read_full(input, part)? < length {
+        return Ok(65536);
     }
-    length
+    Ok(length)
 }
 
 fn copy(from: &[u8], to: &mut [u8]) {
@@ -188,20 +212,20 @@ fn copy(from: &[u8], to: &mut [u8]) {
 }
 
 // A change of one byte; whether it was there.
-fn patch(length: usize, net: &mut [u8]) -> bool {
-    let at = read_number();
+fn patch(input: &mut impl Read, length: usize, net: &mut [u8]) -> io::Result<bool> {
+    let at = read_number(input)?;
     let mut space = [0u8; 1];
     let value: &mut [u8] = &mut space;
-    if io::read_full(STDIN_FILENO, value) < 1 {
-        return false;
+    if read_full(input, value)? < 1 {
+        return Ok(false);
     }
     if length <= at {
-        return true;
+        return Ok(true);
     }
     if at < net.len() {
         net[at] = value[0];
     }
-    true
+    Ok(true)
 }
 
 fn ended(l: Lengths) -> Lengths {
@@ -241,48 +265,64 @@ fn with_base(l: Lengths) -> Lengths {
 }
 
 // A question to as much of the rooms as is filled.
-fn ask(what: u8, l: Lengths, script: &[u8], net: &mut [u8]) -> Lengths {
+fn ask(
+    rt: &impl Print,
+    input: &mut impl Read,
+    what: u8,
+    l: Lengths,
+    script: &[u8],
+    net: &mut [u8],
+) -> io::Result<Lengths> {
     let script_length = l.script;
     let net_length = l.net;
     if script.len() < script_length {
-        return ended(l);
+        return Ok(ended(l));
     }
     if net.len() < net_length {
-        return ended(l);
+        return Ok(ended(l));
     }
     let s = &script[0..script_length];
     let n = &mut net[0..net_length];
-    if question(what, s, n) {
-        return l;
+    if question(rt, input, what, s, n)? {
+        return Ok(l);
     }
-    ended(l)
+    Ok(ended(l))
 }
 
 // One item.
-fn item(what: u8, l: Lengths, script: &mut [u8], net: &mut [u8], base: &mut [u8]) -> Lengths {
+fn item(
+    rt: &impl Print,
+    input: &mut impl Read,
+    what: u8,
+    l: Lengths,
+    script: &mut [u8],
+    net: &mut [u8],
+    base: &mut [u8],
+) -> io::Result<Lengths> {
     if what == b'S' {
-        let length = read_image(script);
-        return with_script(l, length);
+        let length = read_image(input, script)?;
+        return Ok(with_script(l, length));
     }
     if what == b'N' {
-        let length = read_image(net);
+        let length = read_image(input, net)?;
         copy(net, base);
-        return with_net(l, length);
+        return Ok(with_net(l, length));
     }
     if what == b'P' {
-        if patch(l.net, net) {
-            return l;
+        if patch(input, l.net, net)? {
+            return Ok(l);
         }
-        return ended(l);
+        return Ok(ended(l));
     }
     if what == b'B' {
         copy(base, net);
-        return with_base(l);
+        return Ok(with_base(l));
     }
-    ask(what, l, script, net)
+    ask(rt, input, what, l, script, net)
 }
 
-fn main() {
+fn main(rt: HostRuntime) -> io::Result<()> {
+    let mut input = rt.stdin();
     let mut script_space = [0u8; ROOM];
     let script: &mut [u8] = &mut script_space;
     let mut net_space = [0u8; ROOM];
@@ -299,13 +339,14 @@ fn main() {
     };
     let mut left: usize = 4194304;
     while 0 < left {
-        if io::read_full(STDIN_FILENO, what) < 1 {
-            return;
+        if read_full(&mut input, what)? < 1 {
+            return Ok(());
         }
-        l = item(what[0], l, script, net, base);
+        l = item(&rt, &mut input, what[0], l, script, net, base)?;
         if !l.more {
-            return;
+            return Ok(());
         }
         left -= 1;
     }
+    Ok(())
 }

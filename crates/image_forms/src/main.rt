@@ -2,10 +2,13 @@
 // byte of the script ('S') or the net ('N'), or takes only so many bytes of it ('s', 'n'; one more than it has is allowed, and is 0).
 // Each case prints a line: the case, and whether what it makes has the form. A net that has it must be written as it was read.
 #![tactic(auto)]
+
+ghost use Rattle.std.specs.Io.{ReadsAtMost};
+
 use images::Form;
 use images::net_image::{read_net, write_net};
 use images::script_image::read_script;
-use libc::{STDIN_FILENO, STDOUT_FILENO};
+use std::io::{self, Read};
 
 const SCRIPT: usize = 2064;
 
@@ -29,7 +32,7 @@ fn net_has_form(b: &[u8]) -> bool {
     let net = r.net;
     let mut again = [0u8; NET];
     write_net(net, &mut again);
-    check::same(b, &again)
+    b == again.as_slice()
 }
 
 // The image with one byte changed; it is changed back.
@@ -76,23 +79,37 @@ fn cut_net(net: &[u8], length: usize) -> bool {
     net_has_form(&net[0..length])
 }
 
-fn print_case(what: u8, at: usize, value: u8, good: bool) {
-    io::write_all(STDOUT_FILENO, &[what, b' ']);
-    io::print_decimal(STDOUT_FILENO, at as u64);
-    io::write_all(STDOUT_FILENO, b" ");
-    io::print_decimal(STDOUT_FILENO, value as u64);
+// The first byte of a case may be any, so it is written as it is.
+fn print_case(rt: &impl Print, what: u8, at: usize, value: u8, good: bool) -> io::Result<()> {
+    rt.write_all(&[what])?;
     if good {
-        io::write_all(STDOUT_FILENO, b" form\n");
+        println!(rt; " {at} {value} form")
     } else {
-        io::write_all(STDOUT_FILENO, b" no form\n");
+        println!(rt; " {at} {value} no form")
     }
 }
 
-// The image at the front of the bytes; those after it stay 0.
-fn read_image(image: &mut [u8], size: usize) {
-    if size <= image.len() {
-        io::read_full(STDIN_FILENO, &mut image[0..size]);
+// Reads until the room is full or the input ends; how many bytes it put at the front.
+fn read_full(input: &mut impl Read, room: &mut [u8]) -> io::Result<usize>
+    ensures { ReadsAtMost result room.new }
+{
+    let mut done = 0;
+    while done < room.len() {
+        let n = input.read(&mut room[done..])?;
+        if n == 0 {
+            break;
+        }
+        done += n;
     }
+    Ok(done)
+}
+
+// The image at the front of the bytes; those after it stay 0.
+fn read_image(input: &mut impl Read, image: &mut [u8], size: usize) -> io::Result<()> {
+    if size <= image.len() {
+        read_full(input, &mut image[0..size])?;
+    }
+    Ok(())
 }
 
 fn verdict(script: &mut [u8], net: &mut [u8], what: u8, at: usize, value: u8) -> bool {
@@ -108,32 +125,34 @@ fn verdict(script: &mut [u8], net: &mut [u8], what: u8, at: usize, value: u8) ->
     cut_net(net, at)
 }
 
-fn run_case(script: &mut [u8], net: &mut [u8], case: &[u8]) {
+fn run_case(rt: &impl Print, script: &mut [u8], net: &mut [u8], case: &[u8]) -> io::Result<()> {
     if case.len() < 4 {
-        return;
+        return Ok(());
     }
     let what = case[0];
     let at = laws::word_of(case[1], case[2], 0, 0) as usize;
     let value = case[3];
     let good = verdict(script, net, what, at, value);
-    print_case(what, at, value, good);
+    print_case(rt, what, at, value, good)
 }
 
-fn main() {
+fn main(rt: HostRuntime) -> io::Result<()> {
+    let mut input = rt.stdin();
     let mut script_space = [0u8; SCRIPT + 1];
     let script: &mut [u8] = &mut script_space;
     let mut net_space = [0u8; NET + 1];
     let net: &mut [u8] = &mut net_space;
     let mut case_space = [0u8; 4];
     let case: &mut [u8] = &mut case_space;
-    read_image(script, SCRIPT);
-    read_image(net, NET);
+    read_image(&mut input, script, SCRIPT)?;
+    read_image(&mut input, net, NET)?;
     let mut left: usize = 65536;
     while 0 < left {
-        if io::read_full(STDIN_FILENO, case) < 4 {
-            return;
+        if read_full(&mut input, case)? < 4 {
+            return Ok(());
         }
-        run_case(script, net, case);
+        run_case(&rt, script, net, case)?;
         left -= 1;
     }
+    Ok(())
 }

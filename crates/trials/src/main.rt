@@ -2,9 +2,12 @@
 // net, 'P' a change of one byte of the net, 'B' the net as it was given, 'V' whether it is accepted, 'R' a request. Each 'V' and 'R' prints
 // a line: the answer, and of a request also undone, touched, and the check sum of the net's bytes after it.
 #![tactic(auto)]
-use libc::{STDIN_FILENO, STDOUT_FILENO};
+
+ghost use Rattle.std.specs.Io.{ReadsAtMost};
+
 use machine::{call, image_answer};
 use requests::{Told, number};
+use std::io::{self, Read};
 
 const SCRIPT: usize = 2064;
 
@@ -42,27 +45,33 @@ fn crc(bytes: &[u8]) -> u32 {
 
 // ---- lines
 
-fn print_verdict(answer: u8) {
-    io::write_all(STDOUT_FILENO, b"V ");
-    io::print_decimal(STDOUT_FILENO, answer as u64);
-    io::write_all(STDOUT_FILENO, b"\n");
+fn print_verdict(rt: &impl Print, answer: u8) -> io::Result<()> {
+    println!(rt; "V {answer}")
 }
 
-fn print_told(t: Told, sum: u32) {
-    let answer = t.answer;
-    let touched = t.touched;
-    io::write_all(STDOUT_FILENO, b"R ");
-    io::print_decimal(STDOUT_FILENO, number(answer) as u64);
-    io::write_all(STDOUT_FILENO, b" ");
-    io::print_decimal(STDOUT_FILENO, t.undone as u64);
-    io::write_all(STDOUT_FILENO, b" ");
-    io::print_hex(STDOUT_FILENO, touched.0 as u64, 8);
-    io::write_all(STDOUT_FILENO, b" ");
-    io::print_hex(STDOUT_FILENO, sum as u64, 8);
-    io::write_all(STDOUT_FILENO, b"\n");
+fn print_told(rt: &impl Print, t: Told, sum: u32) -> io::Result<()> {
+    let answer = number(t.answer);
+    let undone = t.undone;
+    let touched = t.touched.0;
+    println!(rt; "R {answer} {undone} {touched:08x} {sum:08x}")
 }
 
 // ---- the stream
+
+// Reads until the room is full or the input ends; how many bytes it put at the front.
+fn read_full(input: &mut impl Read, room: &mut [u8]) -> io::Result<usize>
+    ensures { ReadsAtMost result room.new }
+{
+    let mut done = 0;
+    while done < room.len() {
+        let n = input.read(&mut room[done..])?;
+        if n == 0 {
+            break;
+        }
+        done += n;
+    }
+    Ok(done)
+}
 
 fn copy(from: &[u8], to: &mut [u8]) {
     if from.len() != NET {
@@ -78,60 +87,70 @@ fn copy(from: &[u8], to: &mut [u8]) {
     }
 }
 
-fn patch(net: &mut [u8]) {
+fn patch(input: &mut impl Read, net: &mut [u8]) -> io::Result<()> {
     let mut space = [0u8; 3];
     let place: &mut [u8] = &mut space;
-    if io::read_full(STDIN_FILENO, place) < 3 {
-        return;
+    if read_full(input, place)? < 3 {
+        return Ok(());
     }
     let at = laws::word_of(place[0], place[1], 0, 0) as usize;
     if at < net.len() {
         net[at] = place[2];
     }
+    Ok(())
 }
 
-fn ask(script: &[u8], net: &mut [u8]) {
+fn ask(rt: &impl Print, input: &mut impl Read, script: &[u8], net: &mut [u8]) -> io::Result<()> {
     let mut space = [0u8; 6];
     let request: &mut [u8] = &mut space;
-    if io::read_full(STDIN_FILENO, request) < 6 {
-        return;
+    if read_full(input, request)? < 6 {
+        return Ok(());
     }
     let t = call(script, net, request);
     let sum = crc(net);
-    print_told(t, sum);
+    print_told(rt, t, sum)
 }
 
 // One trial; whether there may be more.
-fn trial(what: u8, script: &mut [u8], net: &mut [u8], base: &mut [u8]) -> bool {
+fn trial(
+    rt: &impl Print,
+    input: &mut impl Read,
+    what: u8,
+    script: &mut [u8],
+    net: &mut [u8],
+    base: &mut [u8],
+) -> io::Result<bool> {
     if what == b'S' {
-        return io::read_full(STDIN_FILENO, script) == SCRIPT;
+        let got = read_full(input, script)?;
+        return Ok(got == SCRIPT);
     }
     if what == b'N' {
-        let got = io::read_full(STDIN_FILENO, net);
+        let got = read_full(input, net)?;
         copy(net, base);
-        return got == NET;
+        return Ok(got == NET);
     }
     if what == b'P' {
-        patch(net);
-        return true;
+        patch(input, net)?;
+        return Ok(true);
     }
     if what == b'B' {
         copy(base, net);
-        return true;
+        return Ok(true);
     }
     if what == b'V' {
         let answer = image_answer(script, net);
-        print_verdict(number(answer));
-        return true;
+        print_verdict(rt, number(answer))?;
+        return Ok(true);
     }
     if what == b'R' {
-        ask(script, net);
-        return true;
+        ask(rt, input, script, net)?;
+        return Ok(true);
     }
-    false
+    Ok(false)
 }
 
-fn main() {
+fn main(rt: HostRuntime) -> io::Result<()> {
+    let mut input = rt.stdin();
     let mut script_space = [0u8; SCRIPT];
     let script: &mut [u8] = &mut script_space;
     let mut net_space = [0u8; NET];
@@ -142,12 +161,13 @@ fn main() {
     let what: &mut [u8] = &mut what_space;
     let mut left: usize = 4194304;
     while 0 < left {
-        if io::read_full(STDIN_FILENO, what) < 1 {
-            return;
+        if read_full(&mut input, what)? < 1 {
+            return Ok(());
         }
-        if !trial(what[0], script, net, base) {
-            return;
+        if !trial(&rt, &mut input, what[0], script, net, base)? {
+            return Ok(());
         }
         left -= 1;
     }
+    Ok(())
 }
