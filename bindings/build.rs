@@ -1,5 +1,5 @@
 //! Finds the static library: in the directory that `REWIND_LIBRARY` names, or
-//! where `rt staticlib exports` puts it in this repository.
+//! where `rt lib` in crates/exports puts it in this repository.
 
 use std::env;
 use std::path::{Path, PathBuf};
@@ -15,7 +15,7 @@ fn main() {
     let file = directory.join(FILE);
     if !file.is_file() {
         panic!(
-            "there is no {}: run `rt staticlib exports` at the top of the repository, \
+            "there is no {}: run `rt lib` in crates/exports, \
              or name the directory of {FILE} by {NAMED_BY}",
             file.display()
         );
@@ -28,5 +28,5 @@ fn main() {
 
 fn in_this_repository() -> PathBuf {
     let crate_directory = env::var_os("CARGO_MANIFEST_DIR").unwrap_or_default();
-    Path::new(&crate_directory).join("../target/staticlib")
+    Path::new(&crate_directory).join("../crates/exports/out")
 }

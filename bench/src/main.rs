@@ -24,7 +24,7 @@ use std::time::Instant;
 use walk::{walk, Walked};
 use yardstick::{file, Yardstick};
 
-const PROGRAM: &str = concat!(env!("CARGO_MANIFEST_DIR"), "/../target/bin/rewind");
+const PROGRAM: &str = concat!(env!("CARGO_MANIFEST_DIR"), "/../crates/rewind/out/rewind");
 /// Requests of a stream for `rewind` and the yardstick, and for the second
 /// program, which reads and accepts its images anew for each.
 const LONG: usize = 2_000_000;
@@ -60,7 +60,7 @@ impl Program<'_> {
 
     fn lines(&self, stream: &Path) -> String {
         let output = self.on(stream).output();
-        let output = output.expect("rt check builds target/bin/rewind");
+        let output = output.expect("rt run in crates/rewind builds it");
         String::from_utf8_lossy(&output.stdout).into_owned()
     }
 

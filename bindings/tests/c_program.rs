@@ -12,7 +12,7 @@ fn repository() -> PathBuf {
 fn library() -> PathBuf {
     let directory = match env::var_os("REWIND_LIBRARY") {
         Some(directory) => PathBuf::from(directory),
-        None => repository().join("target/staticlib"),
+        None => repository().join("crates/exports/out"),
     };
     directory.join("libexports.a")
 }

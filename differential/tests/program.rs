@@ -17,9 +17,9 @@ const ROOT: &str = concat!(env!("CARGO_MANIFEST_DIR"), "/..");
 const LINES: u64 = 60_000;
 const PATIENCE: Duration = Duration::from_secs(20);
 
-/// `rt ci` and `rt check` build it.
+/// `rt ci` builds it, and so does `rt run` in crates/rewind.
 fn program() -> String {
-    format!("{ROOT}/target/bin/rewind")
+    format!("{ROOT}/crates/rewind/out/rewind")
 }
 
 /// Document 01's printed example, from its script to its last request.
