@@ -1,16 +1,18 @@
 // The program of document 01: "The program `rewind` reads from standard input one script, one net, then requests, and prints a line each:
 // answer, undone in decimal, touched as 8 lower-case hex digits."
 #![tactic(auto)]
-ghost use Rattle.std.specs.Prelude.{◌≡◌, ◌-◌, ◌*◌, ◌/◌, ◌%◌, ◌≤◌, length, take, drop};
+
+ghost use Rattle.std.specs.Prelude.{◌≡◌, ◌-◌, ◌*◌, ◌/◌, ◌%◌, ◌≤◌, length, take, drop, IfOk};
+ghost use Rattle.std.specs.Io.{ReadsAtMost};
 ghost use Rattle.machine.specs.Calls.{GoodImages};
 ghost use Rattle.rewind.specs.Lines.{line_size};
 ghost use Rattle.rewind.specs.Run.{request_size, request_room, run_of, answered};
 
 use images::{net_image, script_image};
-use libc::{STDIN_FILENO, STDOUT_FILENO};
 use lines::{LINE, put_line, put_refusal};
 use machine::{call_on, image_answer};
 use requests::{Answer, Request};
+use std::io::{self, Read};
 use step::Check;
 use step::checks::all_hold;
 
@@ -29,9 +31,10 @@ const OUTPUT_ROOM: usize = REQUESTS * LINE;
 // they end.
 fn answer_chunk(script: &[u8], net: &mut [u8], requests: &[u8], out: &mut [u8]) -> usize
     requires good_images { GoodImages script.now net.old }
-    requires request_size_in_bounds { line_size * (length requests.now / request_size) ≤ length out.old }
-    ensures net_after { run_of out.new result net.new ≡ answered script.now net.old requests.now (length requests.now / request_size) }
-    ensures upper_bound { (result ≤ length out.new) × GoodImages script.now net.new }
+    requires room { line_size * (length requests.now / request_size) ≤ length out.old }
+    ensures run { run_of out.new result net.new ≡ answered script.now net.old requests.now (length requests.now / request_size) }
+    ensures within { result ≤ length out.new }
+    ensures good_images { GoodImages script.now net.new }
 {
     let count = requests.len() / Request::SIZE;
     let mut end: usize = 0;
@@ -50,8 +53,8 @@ fn answer_chunk(script: &[u8], net: &mut [u8], requests: &[u8], out: &mut [u8]) 
 // The bytes after the last whole request, moved to the front; how many they are.
 fn keep_rest(input: &mut [u8], whole: usize) -> usize
     requires { whole ≤ length input.old }
-    ensures value { result ≡ whole % request_size }
-    ensures input_after { take result input.new ≡ take result (drop (whole - result) input.old) }
+    ensures count { result ≡ whole % request_size }
+    ensures moved { take result input.new ≡ take result (drop (whole - result) input.old) }
 {
     let rest = whole % Request::SIZE;
     let from = whole - rest;
@@ -63,81 +66,103 @@ fn keep_rest(input: &mut [u8], whole: usize) -> usize
     rest
 }
 
-// What has arrived of the input, put behind the first `have` bytes; how many bytes there are then. None more is the end of the input, and so is
-// a read that fails.
-fn read_more(input: &mut [u8], have: usize) -> usize
-    requires { have ≤ length input.old }
-    ensures lower_bound { (have ≤ result) × (result ≤ length input.new) }
-    ensures input_unchanged { take have input.new ≡ take have input.old }
+// Reads until the room is full or the input ends; how many bytes it put at the front.
+fn read_full(source: &mut impl Read, room: &mut [u8]) -> io::Result<usize>
+    ensures { ReadsAtMost result room.new }
 {
-    let room = input.len();
-    let free = &mut input[have..room];
-    let got = libc::read(STDIN_FILENO, free);
-    have + io::count(got, free)
+    let mut done = 0;
+    while done < room.len() {
+        let got = source.read(&mut room[done..])?;
+        if got == 0 {
+            break;
+        }
+        done += got;
+    }
+    Ok(done)
 }
 
-// The line of a refusal; the program ends after it, so nobody asks whether it was written.
-fn print_refusal(answer: Answer) {
+// What has arrived of the input, put behind the first `have` bytes; how many bytes there are then. None more is the end of the input. A read that
+// fails leaves the first `have` bytes too.
+fn read_more(source: &mut impl Read, input: &mut [u8], have: usize) -> io::Result<usize>
+    requires { have ≤ length input.old }
+    ensures count { IfOk result (λ whole. (have ≤ whole) × (whole ≤ length input.new)) }
+    ensures kept { take have input.new ≡ take have input.old }
+{
+    let room = input.len();
+    let got = source.read(&mut input[have..room])?;
+    Ok(have + got)
+}
+
+// The line of a refusal; the program ends after it.
+fn print_refusal(rt: &impl Print, answer: Answer) -> io::Result<()> {
     let mut space = [0u8; LINE];
     let out: &mut [u8] = &mut space;
     let end = put_refusal(answer, out, 0);
     let text = &out[..];
-    io::write_all(STDOUT_FILENO, &text[0..end]);
+    rt.write_all(&text[0..end])
 }
 
 // "1 to 5 bytes left over count as a request of wrong length."
-fn print_rest(rest: usize) {
+fn print_rest(rt: &impl Print, rest: usize) -> io::Result<()> {
     if 0 < rest {
-        print_refusal(Answer::BadRequest);
+        return print_refusal(rt, Answer::BadRequest);
     }
+    Ok(())
 }
 
 // Requests as they arrive: all whole ones are answered, and their lines written, before the next read. An output that takes no more ends the run.
 // The count of turns is one that no run comes to.
-fn answer_all(script: &[u8], net: &mut [u8], input: &mut [u8], out: &mut [u8])
+fn answer_all(
+    rt: &impl Print,
+    source: &mut impl Read,
+    script: &[u8],
+    net: &mut [u8],
+    input: &mut [u8],
+    out: &mut [u8],
+) -> io::Result<()>
     requires good_images { GoodImages script.now net.old }
-    requires input_len { (length input.old ≡ request_room * request_size) × (length out.old ≡ request_room * line_size) }
+    requires rooms { (length input.old ≡ request_room * request_size) × (length out.old ≡ request_room * line_size) }
 {
     let mut have: usize = 0;
     let mut turns: u64 = 18446744073709551615;
     while 0 < turns {
-        let whole = read_more(input, have);
+        let whole = read_more(source, input, have)?;
         if whole == have {
-            print_rest(have);
-            return;
+            return print_rest(rt, have);
         }
         let end = answer_chunk(script, net, &input[0..whole], out);
-        if !io::write_all(STDOUT_FILENO, &out[0..end]) {
-            return;
-        }
+        rt.write_all(&out[0..end])?;
         have = keep_rest(input, whole);
         turns -= 1;
     }
+    Ok(())
 }
 
 // "A bad script or net prints one such line and ends."
-fn main() {
+fn main(rt: HostRuntime) -> io::Result<()> {
+    let mut source = rt.stdin();
     let mut script_space = [0u8; script_image::SIZE];
     let script: &mut [u8] = &mut script_space;
-    let script_length = io::read_full(STDIN_FILENO, script);
+    let script_length = read_full(&mut source, script)?;
     let mut net_space = [0u8; net_image::SIZE];
     let net: &mut [u8] = &mut net_space;
-    let net_length = io::read_full(STDIN_FILENO, net);
+    let net_length = read_full(&mut source, net)?;
     let script_read = &script[..];
     let net_read = &net[..];
     let answer = image_answer(&script_read[0..script_length], &net_read[0..net_length]);
     let Check::Holds = all_hold(answer) else {
-        print_refusal(answer);
-        return;
+        return print_refusal(&rt, answer);
     };
     let mut input_space = [0u8; INPUT_ROOM];
     let input: &mut [u8] = &mut input_space;
     let mut output_space = [0u8; OUTPUT_ROOM];
     let out: &mut [u8] = &mut output_space;
     answer_all(
+        &rt,
+        &mut source,
         &script_read[0..script_length],
         &mut net[0..net_length],
         input,
         out,
-    );
+    )
 }

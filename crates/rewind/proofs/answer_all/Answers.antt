@@ -1,13 +1,12 @@
-use mathlib.Core.Path.{refl}
-use native.Mathlib.Omega.{arith}
-use Rattle.std.proofs.Common.{rules}
+use Rattle.std.proofs.Common.{arith, rules}
 use Rattle.rewind.proofs.answer_all.Goals as goal
 
 pub loop-turns-init : goal.loop-turns-init
-loop-turns-init c = (search rules, c.requires.input_len.0, c.requires.input_len.1, refl, c.requires.good_images)
+loop-turns-init g c = record { few = search rules; input = c.requires.rooms.0; output = c.requires.rooms.1; good = c.requires.good_images }
 
 pub answer_chunk-end-requires : goal.answer_chunk-end-requires
-answer_chunk-end-requires c = record { good_images = c.loop-turns.invariant.4; request_size_in_bounds = omega (arith, c.loop-turns.invariant.1, c.loop-turns.invariant.2, c.read_more-whole.ensures.lower_bound) }
+answer_chunk-end-requires g c = record { good_images = c.loop-turns.invariant.good; room = omega (arith, c.loop-turns.invariant.input, c.loop-turns.invariant.output, c.in_ok-whole.ensures.count) }
 
 pub loop-turns-preserved : goal.loop-turns-preserved
-loop-turns-preserved c = (omega (arith, c.keep_rest-have.ensures.value), search rules, search rules, search rules, c.answer_chunk-end.ensures.upper_bound.1)
+loop-turns-preserved g c =
+    record { few = omega (arith, c.keep_rest-have.ensures.count); input = search rules; output = search rules; good = c.answer_chunk-end.ensures.good_images }

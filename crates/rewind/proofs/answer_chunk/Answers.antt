@@ -15,7 +15,7 @@ pub call_on-t-requires : goal.call_on-t-requires
 call_on-t-requires c = held_images c.args.script.now c.loop-k.net c.loop-k.invariant.3
 
 pub put_line-end-requires : goal.put_line-end-requires
-put_line-end-requires c = (reply_few c.args.script.now c.loop-k.net _ c.loop-k.invariant.3 _ c.call_on-t.ensures.0, omega (arith, c.requires.request_size_in_bounds, c.loop-k.invariant.1, c.loop-k.invariant.2, c.loop-k-test.true))
+put_line-end-requires c = (reply_few c.args.script.now c.loop-k.net _ c.loop-k.invariant.3 _ c.call_on-t.ensures.0, omega (arith, c.requires.room, c.loop-k.invariant.1, c.loop-k.invariant.2, c.loop-k-test.true))
 
 pub overflow_add-k : goal.overflow_add-k
 overflow_add-k c = omega (arith, c.loop-k-test.true)
@@ -33,15 +33,11 @@ loop-k-preserved c =
       run_next c.args.script.now c.args.net.now c.args.requests.now c.loop-k.k _ _ c.loop-k.invariant.4 ran.0,
     )
 
--- was same_length
--- net_size c.before.before.before.before.before.before.args.script.now c.before.loop.net (held_images c.before.before.before.before.before.before.args.script.now c.before.loop.net c.before.loop.invariant.3) ∙ sym (net_size c.before.before.before.before.before.before.args.script.now c.before.before.before.before.before.before.args.net.now c.before.before.before.before.before.before.requires.0)
-
--- was same-length-2
--- c.before.loop.invariant.2
-
 pub returns : goal.returns
 returns c =
-    let e : c.loop-k.k ≡ length c.args.requests.now / 6 = omega (arith, c.loop-k.invariant.0, c.loop-k-test.false) in (
-      c.loop-k.invariant.4 ∙ ap (answered c.args.script.now c.args.net.now c.args.requests.now) e,
-      (omega (arith, c.requires.request_size_in_bounds, c.loop-k.invariant.0, c.loop-k.invariant.1, c.loop-k.invariant.2), held_images c.args.script.now c.loop-k.net c.loop-k.invariant.3),
-    )
+    let e : c.loop-k.k ≡ length c.args.requests.now / 6 = omega (arith, c.loop-k.invariant.0, c.loop-k-test.false) in
+    record {
+      run = c.loop-k.invariant.4 ∙ ap (answered c.args.script.now c.args.net.now c.args.requests.now) e;
+      within = omega (arith, c.requires.room, c.loop-k.invariant.0, c.loop-k.invariant.1, c.loop-k.invariant.2);
+      good_images = held_images c.args.script.now c.loop-k.net c.loop-k.invariant.3;
+    }

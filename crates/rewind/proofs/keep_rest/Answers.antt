@@ -20,7 +20,8 @@ loop-i-preserved c = (search rules, moved_more _ _ _ _ (omega (arith, c.requires
 
 pub returns : goal.returns
 returns c =
-    let e : c.loop-i.i ≡ c.args.whole % 6 = omega (arith, c.loop-i.invariant.0, c.loop-i-test.false) in (
-      refl,
-      subst (λ (k : ℕ). take k c.loop-i.input ≡ take k (drop (c.args.whole - c.args.whole % 6) c.args.input.now)) e c.loop-i.invariant.1.front,
-    )
+    let e : c.loop-i.i ≡ c.args.whole % 6 = omega (arith, c.loop-i.invariant.0, c.loop-i-test.false) in
+    record {
+      count = refl;
+      moved = subst (λ (k : ℕ). take k c.loop-i.input ≡ take k (drop (c.args.whole - c.args.whole % 6) c.args.input.now)) e c.loop-i.invariant.1.front;
+    }
