@@ -2,8 +2,7 @@
 // answer, undone in decimal, touched as 8 lower-case hex digits."
 #![tactic(auto)]
 
-ghost use Rattle.std.specs.Prelude.{◌≡◌, ◌-◌, ◌*◌, ◌/◌, ◌%◌, ◌≤◌, length, take, drop, IfOk};
-ghost use Rattle.std.specs.Io.{ReadsAtMost};
+ghost use Rattle.std.specs.Prelude.{◌≡◌, ◌-◌, ◌*◌, ◌/◌, ◌%◌, ◌≤◌, length, take, drop};
 ghost use Rattle.machine.specs.Calls.{GoodImages};
 ghost use Rattle.rewind.specs.Lines.{line_size};
 ghost use Rattle.rewind.specs.Run.{request_size, request_room, run_of, answered};
@@ -12,7 +11,7 @@ use images::{net_image, script_image};
 use lines::{LINE, put_line, put_refusal};
 use machine::{call_on, image_answer};
 use requests::{Answer, Request};
-use std::io::{self, Read};
+use std::io::Read;
 use step::Check;
 use step::checks::all_hold;
 
@@ -66,48 +65,56 @@ fn keep_rest(input: &mut [u8], whole: usize) -> usize
     rest
 }
 
+// How many bytes a read put at the front of a room. None is the end of the input, and so is a read that fails.
+fn read_some(source: &mut impl Read, room: &mut [u8]) -> usize
+    ensures { result ≤ length room.new }
+{
+    match source.read(room) {
+        Ok(got) => got,
+        Err(_) => 0,
+    }
+}
+
 // Reads until the room is full or the input ends; how many bytes it put at the front.
-fn read_full(source: &mut impl Read, room: &mut [u8]) -> io::Result<usize>
-    ensures { ReadsAtMost result room.new }
+fn read_full(source: &mut impl Read, room: &mut [u8]) -> usize
+    ensures { result ≤ length room.new }
 {
     let mut done = 0;
     while done < room.len() {
-        let got = source.read(&mut room[done..])?;
+        let got = read_some(source, &mut room[done..]);
         if got == 0 {
             break;
         }
         done += got;
     }
-    Ok(done)
+    done
 }
 
-// What has arrived of the input, put behind the first `have` bytes; how many bytes there are then. None more is the end of the input. A read that
-// fails leaves the first `have` bytes too.
-fn read_more(source: &mut impl Read, input: &mut [u8], have: usize) -> io::Result<usize>
+// What has arrived of the input, put behind the first `have` bytes; how many bytes there are then. None more is the end of the input, and so is
+// a read that fails.
+fn read_more(source: &mut impl Read, input: &mut [u8], have: usize) -> usize
     requires { have ≤ length input.old }
-    ensures count { IfOk result (λ whole. (have ≤ whole) × (whole ≤ length input.new)) }
+    ensures count { (have ≤ result) × (result ≤ length input.new) }
     ensures kept { take have input.new ≡ take have input.old }
 {
     let room = input.len();
-    let got = source.read(&mut input[have..room])?;
-    Ok(have + got)
+    have + read_some(source, &mut input[have..room])
 }
 
-// The line of a refusal; the program ends after it.
-fn print_refusal(rt: &impl Print, answer: Answer) -> io::Result<()> {
+// The line of a refusal; the program ends after it, so nobody asks whether it was written.
+fn print_refusal(rt: &impl Print, answer: Answer) {
     let mut space = [0u8; LINE];
     let out: &mut [u8] = &mut space;
     let end = put_refusal(answer, out, 0);
     let text = &out[..];
-    rt.write_all(&text[0..end])
+    let _ = rt.write_all(&text[0..end]);
 }
 
 // "1 to 5 bytes left over count as a request of wrong length."
-fn print_rest(rt: &impl Print, rest: usize) -> io::Result<()> {
+fn print_rest(rt: &impl Print, rest: usize) {
     if 0 < rest {
-        return print_refusal(rt, Answer::BadRequest);
+        print_refusal(rt, Answer::BadRequest);
     }
-    Ok(())
 }
 
 // Requests as they arrive: all whole ones are answered, and their lines written, before the next read. An output that takes no more ends the run.
@@ -119,39 +126,42 @@ fn answer_all(
     net: &mut [u8],
     input: &mut [u8],
     out: &mut [u8],
-) -> io::Result<()>
+)
     requires good_images { GoodImages script.now net.old }
     requires rooms { (length input.old ≡ request_room * request_size) × (length out.old ≡ request_room * line_size) }
 {
     let mut have: usize = 0;
     let mut turns: u64 = 18446744073709551615;
     while 0 < turns {
-        let whole = read_more(source, input, have)?;
+        let whole = read_more(source, input, have);
         if whole == have {
-            return print_rest(rt, have);
+            print_rest(rt, have);
+            return;
         }
         let end = answer_chunk(script, net, &input[0..whole], out);
-        rt.write_all(&out[0..end])?;
+        if rt.write_all(&out[0..end]).is_err() {
+            return;
+        }
         have = keep_rest(input, whole);
         turns -= 1;
     }
-    Ok(())
 }
 
 // "A bad script or net prints one such line and ends."
-fn main(rt: HostRuntime) -> io::Result<()> {
+fn main(rt: HostRuntime) {
     let mut source = rt.stdin();
     let mut script_space = [0u8; script_image::SIZE];
     let script: &mut [u8] = &mut script_space;
-    let script_length = read_full(&mut source, script)?;
+    let script_length = read_full(&mut source, script);
     let mut net_space = [0u8; net_image::SIZE];
     let net: &mut [u8] = &mut net_space;
-    let net_length = read_full(&mut source, net)?;
+    let net_length = read_full(&mut source, net);
     let script_read = &script[..];
     let net_read = &net[..];
     let answer = image_answer(&script_read[0..script_length], &net_read[0..net_length]);
     let Check::Holds = all_hold(answer) else {
-        return print_refusal(&rt, answer);
+        print_refusal(&rt, answer);
+        return;
     };
     let mut input_space = [0u8; INPUT_ROOM];
     let input: &mut [u8] = &mut input_space;
@@ -164,5 +174,5 @@ fn main(rt: HostRuntime) -> io::Result<()> {
         &mut net[0..net_length],
         input,
         out,
-    )
+    );
 }

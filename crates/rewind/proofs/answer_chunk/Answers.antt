@@ -1,9 +1,8 @@
-use Prim.Native.Nat.{◌-◌, ◌/◌}
-use mathlib.Core.Path.{◌≡◌, refl, sym, ap, ◌∙◌}
+use Prim.Native.Nat.{◌/◌}
+use mathlib.Core.Path.{◌≡◌, refl, ap, ◌∙◌}
 use native.Mathlib.Omega.{arith}
 use lib.ListN.{length}
 use Rattle.machine.specs.Bytes.{good_held, held_images}
-use Rattle.machine.specs.OnBytes.{net_size}
 use Rattle.rewind.specs.Run.{answered, reply_few, last_held, one_more, run_first, run_next}
 use Rattle.std.proofs.Common.{rules}
 use Rattle.rewind.proofs.answer_chunk.Goals as goal
