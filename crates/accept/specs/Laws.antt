@@ -1,11 +1,11 @@
 -- What the verdict says. A net in range is accepted exactly when the verdict is that it is; any other verdict names the first clause that does
 -- not hold.
 --
--- In order: what each verdict says (`Says`), and that it is so (`verdict_says`); the law (`accepted_verdict`).
+-- In order: what each verdict says (`Says`); the first clause that fails (`first_of`), and that the verdict says so (`verdict_says`). The law is in proofs/Laws.
 -- Assumes nothing.
 use Rattle.std.specs.Prelude.{◌≡◌, refl, ◌↔◌, Bool, true, false}
 use Rattle.std.proofs.Common.{subst}
-use Rattle.laws.specs.Choice.{and_left, and_right, and_both}
+use Rattle.laws.specs.Choice.{pick, and_left, and_right, and_both}
 use Rattle.laws.specs.Checks.{all}
 use Rattle.order.specs.Peeling.{acyclic}
 use Rattle.names.specs.Names.{key_count, locality_count}
@@ -20,7 +20,6 @@ use Rattle.rules.specs.Instance.{rules_of}
 use Rattle.rules.specs.Same.{same_body, is_accepted, accepted_is_tested}
 use Rattle.rules.specs.View.{view, beyond}
 use Rattle.accept.specs.Verdict.{all_agree, verdict, verdict_of}
-use Rattle.accept.specs.Told.{first_of}
 use Rattle.accept.specs.Forms.{net_formed_lem}
 use Rattle.accept.specs.declared.Verdict.{Verdict}
 
@@ -41,6 +40,15 @@ abbrev pub Says : (s : Script) → Net (rules_of s) → Verdict → Type 0
 Says s n =
     SaysOf (all_agree s n) (once_each locality_count n) (tuples_right n) (localities_right locality_count n) (roots_right n) (acyclic key_count (depends n) (events n))
 
+-- the first of the clauses that does not hold
+abbrev pub first_of : Bool → Bool → Bool → Bool → Bool → Bool → Verdict
+first_of agrees once tuples localities roots ordered =
+    pick agrees
+    (pick once
+    (pick tuples (pick localities (pick roots (pick ordered Verdict.Accepted Verdict.Cycle) Verdict.WrongRoot) Verdict.WrongLocality) Verdict.WrongTuple)
+    Verdict.Twice)
+    Verdict.Disagrees
+
 first_says : (a o t l r c : Bool) → SaysOf a o t l r c (first_of a o t l r c)
 first_says false o t l r c = refl
 first_says true false t l r c = (refl, refl)
@@ -54,38 +62,3 @@ pub verdict_says : (s : Script) (n : Net (rules_of s)) → Says s n (verdict s n
 unfolding verdict
 verdict_says s n =
     first_says (all_agree s n) (once_each locality_count n) (tuples_right n) (localities_right locality_count n) (roots_right n) (acyclic key_count (depends n) (events n))
-
--- ---- acceptance
-
-module _ (s : Script) (n : Net (rules_of s)) where
-  accepted_all : all key_count (λ k. formed same_body (n.slot k)) ≡ true → Says s n Verdict.Accepted → is_accepted s n ≡ true
-  unfolding accepted all_agree
-  accepted_all forms (a, o, t, l, r, c) =
-      and_both (all key_count (λ k. formed same_body (n.slot k))) _ forms
-      (and_both (all_agree s n) _ a
-      (and_both (once_each locality_count n) _ o
-      (and_both (tuples_right n) _ t (and_both (localities_right locality_count n) _ l (and_both (roots_right n) _ r c)))))
-
-  all_accepted : is_accepted s n ≡ true → verdict s n ≡ Verdict.Accepted
-  unfolding accepted all_agree verdict
-  all_accepted h =
-      let h₁ = and_right (all key_count (λ k. formed same_body (n.slot k))) _ h in
-      let h₂ = and_right (all_agree s n) _ h₁ in
-      let h₃ = and_right (once_each locality_count n) _ h₂ in
-      let h₄ = and_right (tuples_right n) _ h₃ in
-      let h₅ = and_right (localities_right locality_count n) _ h₄ in
-      let a = and_left (all_agree s n) _ h₁ in
-      let o = and_left (once_each locality_count n) _ h₂ in
-      let t = and_left (tuples_right n) _ h₃ in
-      let l = and_left (localities_right locality_count n) _ h₄ in
-      let r = and_left (roots_right n) _ h₅ in
-      let c = and_right (roots_right n) _ h₅ in
-      λ i. first_of (a i) (o i) (t i) (l i) (r i) (c i)
-
--- the net of an image in range is accepted exactly when the verdict on it is
-pub accepted_verdict : (s : Script) (n : Images.Net) → ShapedNet n → net_in_range n ≡ true → (verdict_of s n ≡ Verdict.Accepted) ↔ Accepted (view s n)
-accepted_verdict s n v range =
-    let tested = accepted_is_tested s (view s n) (beyond s n) in (
-      λ h. tested.0 (accepted_all s (view s n) (net_formed_lem s n v range) (subst (Says s (view s n)) h (verdict_says s (view s n)))),
-      λ ok. all_accepted s (view s n) (tested.1 ok),
-    )

@@ -1,4 +1,4 @@
--- An event and its rule: how the code tests that they agree (`Agreement`), and that this is the theory's test (`Agreed`).
+-- An event and its rule: how the code tests that they agree (`Agreement`); that this is the theory's test is in proofs/Agreed.
 pub mod Agreement
 pub mod Looked
 pub mod Agreed

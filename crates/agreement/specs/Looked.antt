@@ -2,9 +2,8 @@
 -- `Agreement`. Nothing here must be believed.
 -- In order: the rule applies (`applies_at`) and the second thing stands (`second_stands_at`), of an event that acted at a locality; all of an event
 -- in a net (`agrees_in`). A name that was read is below its count (`key_below`, `node_below`). Each is told by the answers to its tests, in their
--- order: the tuple that it used (`no_key` to `matches`), its rule (`no_step` to `tuple_tells`), the event (`unready` to `second_tells`), since what
--- check 7 found is where it acted (`applies_is`, `second_is`); by the node that it is at (`at_no_node`, `at_node`); a slot agrees where it holds no event
--- (`no_event`), and else as its event does (`event_told`).
+-- order: the tuple that it used (`no_key` to `matches`), its rule (`no_step` to `tuple_tells`); the event (`unready` to `second_tells`) is told in proofs/Looked;
+-- by the node that it is at (`at_no_node`, `at_node`); a slot agrees where it holds no event (`no_event`), and else as its event does (`event_told`).
 -- Assumes nothing.
 use Rattle.std.specs.Prelude.{ℕ, ◌+◌, ◌-◌, ◌*◌, ◌<◌, ◌≡◌, Bool, true, false, ◌&&◌, List, eqb, ltb, take, drop}
 use Rattle.std.proofs.Math.Path.{ap, sym}
@@ -161,73 +160,6 @@ module _ {a d : Action} (is-a : d ≡ a) (x : Slot) (l : Locality) (n : Net) whe
             (λ i.
             sym step i &&
             (sym right i && ((sym present ∙ ap there is-p) i && (sym h i ⇒ tuple_fits (sym is-a i) x.contents l (slot_with n x.used))))))
-
--- ---- where it acted
-
-module _ (a : Action) (x : Slot) (l : Locality) (ready : ready_by a x.contents ≡ true) (is_l : l ≡ acts_at a x.locality x.contents) where
-  pub applies_is : (n : Net) → applies_at a x l n ≡ ruled_by a n.present x (slot_with n x.used)
-  unfolding applies_at ruled_by
-  applies_is n =
-      let there : target_there a.kind n.present l ≡ target_there a.kind n.present (locality (target_by a x.contents)) =
-      ap (target_there a.kind n.present) is_l ∙ acts_there a x.locality x.contents n.present in
-      let met : (meets_tuple a.kind ⇒ tuple_fits a x.contents l (slot_with n x.used)) ≡ (meets_tuple a.kind ⇒ tuple_fits a x.contents (locality (target_by a x.contents)) (slot_with n x.used)) =
-      cases (meets_tuple a.kind)
-      (λ m.
-      ap (λ (z : Locality). meets_tuple a.kind ⇒ tuple_fits a x.contents z (slot_with n x.used))
-      (is_l ∙ acts_target a x.locality x.contents (or_right (is_out a.kind) _ (or_left (meets_tuple a.kind) (is_eval a.kind) m))))
-      (λ m. rw m) in
-      λ i. is_step a.kind && (placed_by a.kind x && (sym ready i && (there i && met i)))
-
-  pub second_is : (second : Slot) → second_stands_at a x l second ≡ second_stands a x second
-  unfolding second_stands_at second_stands
-  second_is second =
-      cases (makes_second a.kind)
-      (λ m.
-      ap (λ (z : Slot). makes_second a.kind ⇒ pick (is_out a.kind) (stands_as second z 4) (stands_as second z 2))
-      (ap (second_at a (body_of x)) is_l ∙ second_acts a (body_of x) m))
-      (λ m. rw m)
-
--- ---- an event x at the node a, by the answers to its tests
-
-module _ (a : Action) (k : Key) (x : Slot) (n : Net) where
-  pub unready : readiness a x.locality x.contents ≡ Readiness.Unset → agrees_in a k x n ≡ false
-  unfolding agrees_by ruled_by
-  unready e = rw (unset_false a x.locality x.contents e, and-false (placed_by a.kind x), and-false (is_step a.kind))
-
-  module _ {l : Locality} (e : readiness a x.locality x.contents ≡ Readiness.Ready l) where
-    abbrev rule : Bool
-    rule = applies_at a x l n
-
-    abbrev first : Action → Bool
-    first b = first_stands b k x (slot_with n x.used) (slot_with n x.first)
-
-    abbrev second : Action → Bool
-    second b = second_stands_at b x l (slot_with n x.second)
-
-    by_tests : (rule && (first a && second a)) ≡ agrees_in a k x n
-    unfolding agrees_by products_stand
-    by_tests =
-        let found = ready_acts a x.locality x.contents l e in
-        λ i. applies_is a x l found.0 found.1 n i && (first a && second_is a x l found.0 found.1 (slot_with n x.second) i)
-
-    pub rule_fails : {b : Bool} → b ≡ rule → b ≡ false → agrees_in a k x n ≡ false
-    rule_fails is_b fails = sym by_tests ∙ ap (λ (b : Bool). b && (first a && second a)) (sym is_b ∙ fails)
-
-    after_rule : {b : Bool} → b ≡ rule → b ≡ true → agrees_in a k x n ≡ (first a && second a)
-    after_rule is_b holds = sym by_tests ∙ ap (λ (b : Bool). b && (first a && second a)) (sym is_b ∙ holds)
-
-    module _ {b : Bool} (is_b : b ≡ rule) (holds : b ≡ true) {d : Action} (is-a : d ≡ a) where
-      pub first_fails : {c : Bool} → c ≡ first d → c ≡ false → agrees_in a k x n ≡ false
-      first_fails is_c fails =
-          after_rule is_b holds ∙ ap (λ (c : Bool). c && second a) (ap first (sym is-a) ∙ sym is_c ∙ fails)
-
-      pub second_tells : {c r : Bool} → c ≡ first d → c ≡ true → r ≡ second d → r ≡ agrees_in a k x n
-      second_tells is_c stands is-r =
-          sym
-          (after_rule is_b holds ∙
-          ap (λ (c : Bool). c && second a) (ap first (sym is-a) ∙ sym is_c ∙ stands) ∙
-          ap second (sym is-a) ∙
-          sym is-r)
 
 -- ---- the node that it is at
 

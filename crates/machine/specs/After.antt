@@ -28,8 +28,9 @@ use Rattle.step.specs.Lent.{Good}
 use Rattle.step.specs.Change.{applied}
 use Rattle.step.specs.Forward.{forward_change}
 use Rattle.step.specs.Backward.{undone_at}
-use Rattle.step.specs.Laws.{forward_done_lem, forward_gives}
-use Rattle.step.specs.Undone.{undo_is}
+use Rattle.step.specs.Laws.{forward_done_lem}
+use Rattle.step.proofs.Laws.{forward_gives}
+use Rattle.step.proofs.Undone.{undo_is}
 use Rattle.ranges.specs.Forward.{forward_in_range, forward_shaped}
 use Rattle.ranges.specs.Backward.{accepted_taken, undone_in_range, undone_shaped}
 

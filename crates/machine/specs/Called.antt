@@ -28,7 +28,7 @@ use Rattle.images.specs.declared.NetRead.{NetRead}
 use Rattle.rules.specs.Same.{is_accepted, accepted_is_tested}
 use Rattle.rules.specs.View.{view, beyond}
 use Rattle.accept.specs.Verdict.{verdict_of}
-use Rattle.accept.specs.Laws.{accepted_verdict}
+use Rattle.accept.proofs.Laws.{accepted_verdict}
 use Rattle.accept.specs.declared.Verdict.{Verdict}
 use Rattle.accept.specs.declared.Verdict.TheVariants as Verdict
 use Rattle.requests.specs.Answers.{in_range}

@@ -37,8 +37,9 @@ use Rattle.step.specs.Lent as Lent
 use Rattle.step.specs.Change.{refused, stepped, applied, stepped_to}
 use Rattle.step.specs.Forward.{forward_answer, forward_done, forward_change, forward_outcome}
 use Rattle.step.specs.Backward.{backward_answer, backward_done, undone_at, backward_change, backward_outcome}
-use Rattle.step.specs.Laws.{refused_stays, forward_done_lem, forward_gives}
-use Rattle.step.specs.Undone.{undo_is, undo_touched}
+use Rattle.step.specs.Laws.{refused_stays, forward_done_lem}
+use Rattle.step.proofs.Laws.{forward_gives}
+use Rattle.step.proofs.Undone.{undo_is, undo_touched}
 use Rattle.ranges.specs.Forward.{forward_in_range, forward_shaped}
 use Rattle.ranges.specs.Backward.{accepted_taken, undone_in_range, undone_shaped}
 use Rattle.rollback.specs.Rollback.{undone_all, rollback_answer, rollback_outcome, roll_answer, roll_outcome}

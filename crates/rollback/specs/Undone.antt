@@ -40,7 +40,7 @@ use Rattle.rules.specs.Image.{image_of, image_view}
 use Rattle.step.specs.Lent.{Good, done}
 use Rattle.step.specs.Change.{Change, applied}
 use Rattle.step.specs.Backward.{undone_at}
-use Rattle.step.specs.Undone as Step
+use Rattle.step.proofs.Undone as Step
 use Rattle.step.specs.Way.{way_of, way_behind, clear_undoable}
 use Rattle.step.specs.declared.backward.Way.TheVariants as Way
 use Rattle.ranges.specs.Backward.{accepted_taken, undone_in_range, undone_shaped}

@@ -1,6 +1,6 @@
 -- What a step promises, in the words of the theory alone: nothing of how the code finds out shows through.
--- In order: a refusal changes nothing (`refused_stays`); a forward step is done exactly when its rule allows it (`forward_done_lem`), and gives the
--- net that the rule gives (`forward_gives`); a backward step of an accepted net, by the undoing of its event (`Undoes`, `undo_promised`).
+-- In order: a refusal changes nothing (`refused_stays`); a forward step is done exactly when its rule allows it (`forward_done_lem`); a backward step, by the
+-- undoing of its event (`Undoes`). That these are so of what the code changes (`forward_gives`, `undo_promised`) is in proofs/Laws.
 -- Document 01's row of each refusal is in `requests` (`Checks`, `refused_iff`).
 -- Assumes nothing.
 use Rattle.std.specs.Prelude.{ℕ, zero, suc, ◌<◌, ◌≡◌, ◌↔◌, Bool, true, false, ◌&&◌, eqb, length}
@@ -36,8 +36,6 @@ use Rattle.step.specs.Change.{Change, refused, stepped, put_in, applied}
 use Rattle.step.specs.Forward.{forward_answer, forward_done, forward_change}
 use Rattle.step.specs.Backward.{backward_answer, backward_done, undone_at, backward_change}
 pub use Rattle.step.specs.Backward.{undoing}
-use Rattle.step.specs.Steps.{forward_is}
-use Rattle.step.specs.Undone.{undo_is, undo_touched, undo_undone}
 
 -- ---- a refusal
 
@@ -57,13 +55,6 @@ module _ (s : Script) (w : ShapedScript s) (n : Images.Net) (whole : length n.sl
     λ can. ap (λ (k : ℕ). is_done (answer_of k)) (can_forward (rolled_by s) refl refl (view s n) (asked r) range can),
   )
 
-  -- and then the net is the rule's: demand 2
-  pub forward_gives : is_done (forward_answer s n r) ≡ true → view s (applied n (forward_change s n r)) ≡ forward (view s n) (places (rolled_by s) (view s n) (asked r))
-  unfolding forward_change forward_answer stepped
-  forward_gives h =
-      let all : refusal (forward_checks (rolled_by s) (view s n) (asked r)) ≡ 0 = done_zero (refusal (forward_checks (rolled_by s) (view s n) (asked r))) h in
-      rw h (forward_is s w.nodes n whole r range all)
-
   -- otherwise it is as it was
   pub forward_stays : is_done (forward_answer s n r) ≡ false → applied n (forward_change s n r) ≡ n
   unfolding forward_change stepped
@@ -80,48 +71,3 @@ pub record Undoes (s : Script) (n : Images.Net) (k : Key) (c : Change) : Type 0 
   pub undone : Undoable (view s n) k.0 → c.undone ≡ 1
   pub touched_word_lem : Undoable (view s n) k.0 → c.touched.0 ≡ word_of locality_count (touched (view s n) (undo (view s n) k.0))
   pub stays : is_done c.answer ≡ false → applied n c ≡ n
-
-module _ (s : Script) (w : ShapedScript s) (in-form : script_in_range s ≡ true) (n : Images.Net) (whole : length n.slots ≡ key_count)
-    (ok : Accepted (view s n)) (k : Key) where
-  abbrev r : Request
-  r = undoing k
-
-  none_given : no_places (asked r) ≡ true
-  unfolding no_places
-  none_given = refl
-
-  may : is_done (backward_answer s n r) ≡ true → Undoable (view s n) k.0
-  unfolding backward_answer backward_checks
-  may h =
-      let zeroed : refusal (backward_checks (rolled_by s) (view s n) (asked r)) ≡ 0 = done_zero (refusal (backward_checks (rolled_by s) (view s n) (asked r))) h in
-      let hold = all_hold (backward_checks (rolled_by s) (view s n) (asked r)) ((λ z. omega (arith, z)), ((λ z. omega (arith, z)), ((λ z. omega (arith, z)), tt))) zeroed in
-      undo_can (rolled_by s) refl (view s n) ok (asked r) hold.0 hold.1.1.0
-
-  can : Undoable (view s n) k.0 → is_done (backward_answer s n r) ≡ true
-  unfolding backward_answer backward_checks
-  can u =
-      ap (λ (j : ℕ). is_done (answer_of j))
-      (none_fails (backward_checks (rolled_by s) (view s n) (asked r)) (u.is_past_lem, (none_given, (can_undo_lem (rolled_by s) refl (view s n) ok (asked r) u, tt))))
-
-  changed : Undoable (view s n) k.0 → backward_change s n r ≡ undone_at s n k
-  unfolding backward_change stepped
-  changed u = rw (can u)
-
-  answered : is_done (backward_change s n r).answer ≡ is_done (backward_answer s n r)
-  unfolding backward_change stepped refused backward_done
-  answered = cases (is_done (backward_answer s n r)) (λ h. rw h) (λ h. rw h h)
-
-  stays : is_done (backward_answer s n r) ≡ false → applied n (backward_change s n r) ≡ n
-  unfolding backward_change stepped
-  stays h = rw h (refused_stays n (backward_answer s n r))
-
-  pub undo_promised : Undoes s n k (backward_change s n r)
-  undo_promised =
-      record {
-        done = λ u. answered ∙ can u;
-        allowed = λ h. may (sym answered ∙ h);
-        net = λ u. ap (λ (c : Change). view s (applied n c)) (changed u) ∙ undo_is s w in-form n whole ok k u;
-        undone = λ u. ap (λ (c : Change). c.undone) (changed u) ∙ undo_undone s w in-form n whole ok k u;
-        touched_word_lem = λ u. ap (λ (c : Change). c.touched.0) (changed u) ∙ undo_touched s w in-form n whole ok k u;
-        stays = λ h. stays (sym answered ∙ h);
-      }

@@ -1,5 +1,4 @@
--- A change on the lent bytes of good images, as the outcome of a call: refused, or written.
--- In order: what a contract says of a call (`Serves`); a change that is refused (`change_refused`), and one that is written (`change_written`).
+-- What a contract says of a call on the lent bytes of good images (`Serves`).
 -- Assumes nothing.
 use Rattle.std.specs.Prelude.{ℕ, ◌≡◌, refl, true, false, List}
 use Rattle.std.proofs.Common.{sym, ◌∙◌}
@@ -21,21 +20,3 @@ use Rattle.step.specs.InPlace.{change_bytes, change_bytes_lem}
 -- what is told of an outcome, and the bytes that it leaves
 abbrev pub Serves : Told → List ℕ → Outcome → List ℕ → Type 0
 Serves t last o net = (t ≡ told o) × (last ≡ lent_after o net)
-
-module _ (S N : List ℕ) (lent : Lent S N) (bytes : Bytes N) where
-  abbrev n : Net
-  n = net_of N
-
-  pub change_refused : (c : Change) (present : Localities) (o : Answer) → is_done o ≡ false → refused present o ≡ c → (z : Told) → z ≡ refusal o
-      → Serves z N (stepped_to n c) N
-  unfolding refused lent_after
-  change_refused c present o h e z is-z = subst (λ (d : Change). Serves z N (stepped_to n d) N) e (is-z, rw h refl)
-
-  -- its bytes, once it is written, are those of the net with it
-  pub change_written : (c d : Change) → is_done d.answer ≡ true → d ≡ c → (z : Told) → z ≡ record { answer = d.answer; undone = d.undone; touched = d.touched }
-      → (last : List ℕ) → last ≡ change_bytes d N → Serves z last (stepped_to n c) N
-  unfolding lent_after
-  change_written c d h e z is-z last is_last =
-      let written : last ≡ net_bytes (applied n d) =
-      is_last ∙ ap (change_bytes d) (sym (net_back N bytes lent.formed)) ∙ change_bytes_lem n (shaped_net N bytes).slots d in
-      subst (λ (d : Change). Serves z last (stepped_to n d) N) e (is-z, rw h written)

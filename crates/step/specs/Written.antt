@@ -1,5 +1,5 @@
 -- A change written into a net, seen as a net of the theory.
--- In order: a slot put at a key (`put_view`, `put_length`); a change (`applied_slot`, `applied_present`); localities with one more
+-- In order: a slot put at a key (`put_view`, `put_length`); a change (`applied_present`; its slots are in proofs/Written); localities with one more
 -- (`joined_view`) or one less (`parted_view`); equality
 -- asked the other way round (`eqb_swap`).
 -- Assumes nothing.
@@ -52,22 +52,6 @@ module _ (s : Script) where
       (λ l. rw l (ap (slot_view s) (get_or-set_other n.slots p.key.0 k p.slot I.slot0 (eqb-false k p.key.0 e))))
       (λ l. rw l))))
       (λ t. rw t)
-
-  same_slots : (n : Images.Net) (c : Change) (k : ℕ) → (view s (applied n c)).slot k ≡ (view s (put_in (put_in (put_in n c.event) c.first) c.other)).slot k
-  unfolding view applied
-  same_slots n c k = refl
-
-  -- what stands at a key once the change is written: what was put there last
-  pub applied_slot : (n : Images.Net) (c : Change) → length n.slots ≡ key_count → (k : ℕ) → (view s (applied n c)).slot k ≡ pick (is_at c.other k) (slot_view s c.other.slot) (pick (is_at c.first k) (slot_view s c.first.slot) (pick (is_at c.event k) (slot_view s c.event.slot) ((view s n).slot k)))
-  applied_slot n c whole k =
-      let one = put_in n c.event in
-      let two = put_in one c.first in
-      let whole₁ = put_length n c.event ∙ whole in
-      let whole₂ = put_length one c.first ∙ whole₁ in
-      same_slots n c k ∙ put_view two c.other whole₂ k ∙
-      ap (pick (is_at c.other k) (slot_view s c.other.slot))
-      (put_view one c.first whole₁ k ∙
-      ap (pick (is_at c.first k) (slot_view s c.first.slot)) (put_view n c.event whole k))
 
   pub applied_present : (n : Images.Net) (c : Change) (l : ℕ) → (view s (applied n c)).present l ≡ (ltb l locality_count && member c.present.0 l)
   unfolding view applied

@@ -1,5 +1,5 @@
 use borrow.Author.Tests.{not-true, not-false}
-use Rattle.accept.specs.Told.{verdict_disagrees, verdict_key_twice, verdict_locality_twice, verdict_tuple_twice, verdict_tuple, verdict_locality, verdict_root, verdict_cycle, verdict_accepted}
+use Rattle.accept.proofs.Told.{verdict_disagrees, verdict_key_twice, verdict_locality_twice, verdict_tuple_twice, verdict_tuple, verdict_locality, verdict_root, verdict_cycle, verdict_accepted}
 use Rattle.accept.proofs.accept.Goals as goal
 
 pub returns-then-not-events_agree : goal.returns-then-not-events_agree

@@ -1,7 +1,7 @@
 use mathlib.Core.Path.{◌∙◌, sym}
 use borrow.Author.Tests.{not-true, not-false}
 use Rattle.images.specs.Read.{net_of}
-use Rattle.agreement.specs.Looked.{unready, rule_fails, first_fails, second_tells}
+use Rattle.agreement.proofs.Looked.{unready, rule_fails, first_fails, second_tells}
 use Rattle.agreement.proofs.step_agrees.Goals as goal
 
 pub returns-in_default : goal.returns-in_default

@@ -9,7 +9,7 @@ use Rattle.step.specs.Lent.{by_yes, by_no}
 use Rattle.rollback.specs.Rollback.{undone_done, rolled_back, roll_answer, roll_outcome}
 use Rattle.images.specs.Sizes.{net_sized}
 use Rattle.rollback.specs.InPlace.{gives_same}
-use Rattle.rollback.specs.Checked.{roll_found, roll_found_event, roll_found_held}
+use Rattle.rollback.proofs.Checked.{roll_found, roll_found_event, roll_found_held}
 use Rattle.std.proofs.Common.{rules}
 use Rattle.rollback.proofs.roll.Goals as goal
 

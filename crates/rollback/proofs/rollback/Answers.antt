@@ -5,7 +5,7 @@ use Rattle.step.specs.Tests.{holds_true, fails_false}
 use Rattle.step.specs.Lent.{by_yes, by_no}
 use Rattle.rollback.specs.Rollback.{undone_done, rolled_back, rollback_answer, rollback_outcome}
 use Rattle.images.specs.Sizes.{net_sized}
-use Rattle.rollback.specs.Checked.{rollback_found, rollback_found_event}
+use Rattle.rollback.proofs.Checked.{rollback_found, rollback_found_event}
 use Rattle.std.proofs.Common.{rules}
 use Rattle.rollback.proofs.rollback.Goals as goal
 

@@ -1,4 +1,4 @@
-use Rattle.accept.specs.Told.{shifted_same}
+use Rattle.accept.proofs.Told.{shifted_same}
 use Rattle.std.proofs.Common.{rules}
 use Rattle.accept.proofs.whole.localities_right.Goals as goal
 

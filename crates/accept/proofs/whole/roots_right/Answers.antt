@@ -4,7 +4,7 @@ use borrow.Author.Count.{below_none, below_more}
 use Rattle.laws.specs.Checks.{all_of, all_not}
 use Rattle.images.specs.Read.{net_of}
 use Rattle.accept.specs.Whole.{roots_right}
-use Rattle.accept.specs.Told.{root_at}
+use Rattle.accept.proofs.Told.{root_at}
 use Rattle.std.proofs.Common.{rules}
 use Rattle.accept.proofs.whole.roots_right.Goals as goal
 

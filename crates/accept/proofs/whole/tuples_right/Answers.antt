@@ -5,7 +5,7 @@ use borrow.Author.Tests.{eq-eqb, ne_eqb}
 use Rattle.laws.specs.Checks.{all_of, all_not}
 use Rattle.images.specs.Read.{net_of}
 use Rattle.accept.specs.Whole.{tuples_right}
-use Rattle.accept.specs.Told.{consumed_tuple, no_tuple, taken_tuple}
+use Rattle.accept.proofs.Told.{consumed_tuple, no_tuple, taken_tuple}
 use Rattle.std.proofs.Common.{rules}
 use Rattle.accept.proofs.whole.tuples_right.Goals as goal
 

@@ -2,7 +2,7 @@ use Rattle.std.proofs.Common.{rules}
 use mathlib.Core.Path.{sym, ◌∙◌}
 use Rattle.images.specs.Sizes.{net_sized}
 use Rattle.step.specs.Tests.{holds_true, fails_false}
-use Rattle.step.specs.Back.{refuses_process, refuses_places, refuses_undoing, may_undo, undoing_served}
+use Rattle.step.proofs.Back.{refuses_process, refuses_places, refuses_undoing, may_undo, undoing_served}
 use Rattle.step.proofs.backward.backward.Goals as goal
 
 pub slot_in-x-requires : goal.slot_in-x-requires

@@ -2,7 +2,7 @@ use mathlib.Core.Path.{sym, ◌∙◌}
 use borrow.Author.Tests.{ltb-true}
 use Rattle.images.specs.Net.{slot_with}
 use Rattle.images.specs.Read.{net_of}
-use Rattle.step.specs.Back.{freed_no_key, freed_no_place, freed_there}
+use Rattle.step.proofs.Back.{freed_no_key, freed_no_place, freed_there}
 use Rattle.step.proofs.backward.freed_at.Goals as goal
 
 pub returns-then-not-is_key : goal.returns-then-not-is_key

@@ -2,7 +2,7 @@ use mathlib.Core.Path.{refl, sym, ◌∙◌}
 use borrow.Author.Tests.{eq-eqb, ne_eqb}
 use Rattle.images.specs.Read.{script_of, net_of}
 use Rattle.step.specs.Way.{returns_first, returns_live, returns_second, returns_user, returns_no_read, returns_untaken, returns_taker}
-use Rattle.step.specs.Back.{kind_yes, kind_no}
+use Rattle.step.proofs.Back.{kind_yes, kind_no}
 use Rattle.step.proofs.backward.in_the_way.Goals as goal
 
 pub returns-then-kind_in-eq-PAST : goal.returns-then-kind_in-eq-PAST

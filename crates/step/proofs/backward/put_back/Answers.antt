@@ -2,7 +2,7 @@ use mathlib.Core.Path.{sym, ◌∙◌}
 use borrow.Author.Tests.{eq-eqb, ne_eqb}
 use Rattle.images.specs.Net.{slot_with}
 use Rattle.images.specs.Read.{net_of}
-use Rattle.step.specs.Back.{back_none, back_second, back_tuple, kept}
+use Rattle.step.proofs.Back.{back_none, back_second, back_tuple, kept}
 use Rattle.step.proofs.backward.put_back.Goals as goal
 
 pub returns-then-is_key : goal.returns-then-is_key

@@ -1,6 +1,6 @@
 use native.Mathlib.Omega.{arith}
 use Rattle.images.specs.Read.{script_of, net_of}
-use Rattle.step.specs.Back.{untaken_first, untaken_all, next_untaken_other, next_untaken_kind, next_untaken_node, taker_here}
+use Rattle.step.proofs.Back.{untaken_first, untaken_all, next_untaken_other, next_untaken_kind, next_untaken_node, taker_here}
 use Rattle.step.proofs.backward.taker_of.Goals as goal
 
 pub loop-next-init : goal.loop-next-init

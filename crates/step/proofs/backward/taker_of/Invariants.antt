@@ -1,7 +1,7 @@
 use Prim.Native.Nat.{◌-◌, ◌≤◌}
 use Rattle.names.specs.Names.{key_count}
 use Rattle.images.specs.Read.{script_of, net_of}
-use Rattle.step.specs.Back.{Untaken}
+use Rattle.step.proofs.Back.{Untaken}
 use Rattle.step.proofs.backward.taker_of.Given as goal
 
 abbrev pub invariant-loop-next : goal.invariant-loop-next

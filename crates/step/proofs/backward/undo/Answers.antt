@@ -1,5 +1,5 @@
 use Rattle.step.specs.InPlace.{slot_kept}
-use Rattle.step.specs.Back.{undo_sized, undo_below, undo_keeps, undo_touches, undo_writes}
+use Rattle.step.proofs.Back.{undo_sized, undo_below, undo_keeps, undo_touches, undo_writes}
 use Rattle.step.proofs.backward.undo.Goals as goal
 
 pub slot_at-x-requires : goal.slot_at-x-requires

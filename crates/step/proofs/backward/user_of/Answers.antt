@@ -1,6 +1,6 @@
 use native.Mathlib.Omega.{arith}
 use Rattle.images.specs.Read.{net_of}
-use Rattle.step.specs.Back.{unused_first, unused_all, next_other, next_kind, user_here}
+use Rattle.step.proofs.Back.{unused_first, unused_all, next_other, next_kind, user_here}
 use Rattle.step.proofs.backward.user_of.Goals as goal
 
 pub loop-next-init : goal.loop-next-init

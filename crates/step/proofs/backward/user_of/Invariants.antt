@@ -1,7 +1,7 @@
 use Prim.Native.Nat.{◌-◌, ◌≤◌}
 use Rattle.names.specs.Names.{key_count}
 use Rattle.images.specs.Read.{net_of}
-use Rattle.step.specs.Back.{Unused}
+use Rattle.step.proofs.Back.{Unused}
 use Rattle.step.proofs.backward.user_of.Given as goal
 
 abbrev pub invariant-loop-next : goal.invariant-loop-next

@@ -6,7 +6,7 @@ use Rattle.images.specs.Sizes.{net_sized}
 use Rattle.step.specs.Forward.{forward_in}
 use Rattle.step.specs.InPlace.{change_bytes}
 use Rattle.step.specs.Allowed.{allowed_by}
-use Rattle.step.specs.Forwarded.{start_of, node_ends, node_here, forward_refused, forward_done_lem}
+use Rattle.step.proofs.Forwarded.{start_of, node_ends, node_here, forward_refused, forward_done_lem}
 use Rattle.std.proofs.Common.{rules}
 use Rattle.step.proofs.forward.forward.Goals as goal
 

@@ -32,7 +32,8 @@ use Rattle.step.specs.Change.{stepped_yes, stepped_no, refused}
 use Rattle.step.specs.Forward.{forward_in, forward_change, forward_done, forward_answer, forward_outcome}
 use Rattle.step.specs.Tested.{forward_answered}
 use Rattle.step.specs.Allowed.{allowed_by, forward_found, refused_found, at_found, in_range_key, slot_with_lem}
-use Rattle.step.specs.Stepped.{Serves, change_refused, change_written}
+use Rattle.step.specs.Stepped.{Serves}
+use Rattle.step.proofs.Stepped.{change_refused, change_written}
 use Rattle.step.specs.InPlace.{change_bytes}
 use Rattle.step.specs.declared.forward.Allowed.{Allowed}
 use Rattle.step.specs.declared.forward.Allowed.TheVariants as Allowed

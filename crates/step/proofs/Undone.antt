@@ -48,7 +48,8 @@ use Rattle.rules.specs.View.{view, slot_view, view_with, view_present, free_view
 use Rattle.step.specs.Change.{Change, applied}
 use Rattle.step.specs.Tested.{node_is, no_node}
 use Rattle.step.specs.Backward.{back_put, backward_other, present_before, freed_at, backward_done, undone_at}
-use Rattle.step.specs.Written.{is_at, applied_slot, applied_present, parted_view, eqb_swap}
+use Rattle.step.specs.Written.{is_at, applied_present, parted_view, eqb_swap}
+use Rattle.step.proofs.Written.{applied_slot}
 
 module _ (s : Script) (w : ShapedScript s) (in-form : script_in_range s ≡ true) (n : Images.Net) (whole : length n.slots ≡ key_count)
     (ok : Accepted (view s n)) (k : Key) (u : Undoable (view s n) k.0) where

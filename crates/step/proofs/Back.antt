@@ -53,7 +53,8 @@ use Rattle.step.specs.Lent.{Lent}
 use Rattle.step.specs.Change.{refused, stepped_yes, stepped_no}
 use Rattle.step.specs.Backward.{back_put, present_before, freed_at, backward_done, backward_answer, undone_at, backward_change, backward_outcome}
 use Rattle.step.specs.InPlace.{put_bytes, change_bytes, slot_kept}
-use Rattle.step.specs.Stepped.{Serves, change_refused, change_written}
+use Rattle.step.specs.Stepped.{Serves}
+use Rattle.step.proofs.Stepped.{change_refused, change_written}
 use Rattle.step.specs.Way.{used_by, taken_by, user_of, taker_of, way_of, least_here, least_none, unused_event, unused_other, used_yes, untaken_event, untaken_other, untaken_node, taken_yes, taken_is, clear_undoable, behind_not}
 use Rattle.step.specs.declared.backward.Way.{Way}
 use Rattle.step.specs.declared.backward.Way.TheVariants as Way

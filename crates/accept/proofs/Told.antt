@@ -3,9 +3,8 @@
 --
 -- In order: tests together (`all_and`, `picked`, `either_both` and their kin); what the code looks at: two sets of localities (`shifted_same`), a root
 -- (`root_at`), a tuple (`consumed_tuple` and its kin); agreement (`agree_told`), by which events that use a tuple have its key (`used_told`); made
--- and taken once (`once_told`); tuples, localities and roots (`tuples_told`, `localities_told`, `roots_told`); dependence (`cycle_told`); the first
--- clause that fails (`first_of`); arrays of a net that was taken apart (`whole_contents`, `whole_refs`); the code's answers, one by one
--- (`verdict-..`).
+-- and taken once (`once_told`); tuples, localities and roots (`tuples_told`, `localities_told`, `roots_told`); dependence (`cycle_told`);
+-- arrays of a net that was taken apart (`whole_contents`, `whole_refs`); the code's answers, one by one (`verdict_disagrees` and its kin).
 -- Assumes nothing.
 use Rattle.std.specs.Prelude.{ℕ, ◌+◌, ◌-◌, ◌/◌, ◌%◌, ◌^◌, ◌<◌, ◌≤◌, ◌≡◌, refl, Bool, false, ◌&&◌, ◌||◌, List, eqb, ltb, leb, length}
 use Rattle.std.proofs.Math.Nat.{div-div-eq-div-mul}
@@ -43,7 +42,7 @@ use Rattle.rules.specs.Roots.{rooted}
 use Rattle.rules.specs.Same.{same_body}
 use Rattle.rules.specs.View.{view, view_slot, view_with, view_present, beyond, tuple_is, consumed_is, free_is}
 use Rattle.agreement.specs.Agreement.{slot_agrees}
-use Rattle.agreement.specs.Agreed.{agrees_is}
+use Rattle.agreement.proofs.Agreed.{agrees_is}
 use Rattle.traces.specs.Traces.{deeds_of, deed_at, events_of, keys_made, localities_made, tuples_taken, rows_of}
 use Rattle.traces.specs.Marks.{whole_script}
 use Rattle.traces.specs.Traced.{Used, event_at, taken_at, events_in_lem, keys_once, keys_in, localities_once, localities_in, taken_once, taken_in, edges_depend}
@@ -52,6 +51,7 @@ use Rattle.traces.specs.declared.PlaceMarks.{PlaceMarks}
 use Rattle.cycles.specs.Cycles.{edges, members}
 use Rattle.accept.specs.Whole as W
 use Rattle.accept.specs.Verdict.{all_agree, verdict, verdict_of}
+use Rattle.accept.specs.Laws.{first_of}
 use Rattle.accept.specs.declared.Verdict.{Verdict}
 
 -- ---- tests together
@@ -296,15 +296,6 @@ module _ (s : Script) (n : Images.Net) where
       ap₂ (acyclic key_count) (fun_ext (λ e. fun_ext (λ f. edges_depend s n (used_told h) e f))) (fun_ext members_told)
 
 -- ---- the code's answers
-
--- the first of the clauses that does not hold
-abbrev pub first_of : Bool → Bool → Bool → Bool → Bool → Bool → Verdict
-first_of agrees once tuples localities roots ordered =
-    pick agrees
-    (pick once
-    (pick tuples (pick localities (pick roots (pick ordered Verdict.Accepted Verdict.Cycle) Verdict.WrongRoot) Verdict.WrongLocality) Verdict.WrongTuple)
-    Verdict.Twice)
-    Verdict.Disagrees
 
 -- the slots of a net that was taken apart have their arrays whole
 whole_contents : (b : List ℕ) (i : ℕ) → i < key_count → length (slot_at (net_of b) i).contents ≡ 8

@@ -46,7 +46,8 @@ use Rattle.requests.specs.declared.Request as Code
 use Rattle.step.specs.Change.{Change, applied}
 use Rattle.step.specs.Tested.{node_is, no_node}
 use Rattle.step.specs.Forward.{past_slot, forward_other, present_after, forward_done}
-use Rattle.step.specs.Written.{is_at, applied_slot, applied_present, joined_view, eqb_swap}
+use Rattle.step.specs.Written.{is_at, applied_present, joined_view, eqb_swap}
+use Rattle.step.proofs.Written.{applied_slot}
 
 module _ (s : Script) (nodes : length s.nodes ≡ node_count) (n : Images.Net) (whole : length n.slots ≡ key_count)
     (r : Code.Request) (range : in_range (asked r) ≡ true) (holds : refusal (forward_checks (rolled_by s) (view s n) (asked r)) ≡ 0) where

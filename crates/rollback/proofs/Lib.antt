@@ -1,0 +1,2 @@
+-- What the checks of a rollback and a roll say, from what the code looked up.
+pub mod Checked
