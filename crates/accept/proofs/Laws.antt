@@ -1,16 +1,15 @@
 -- A net in range is accepted exactly when the verdict is that it is (`accepted_verdict`).
 -- Assumes nothing.
-use Rattle.std.specs.Prelude.{◌≡◌, refl, ◌↔◌, Bool, true, false}
+use Rattle.std.specs.Prelude.{◌≡◌, ◌↔◌, true}
 use Rattle.std.proofs.Common.{subst}
 use Rattle.laws.specs.Choice.{and_left, and_right, and_both}
 use Rattle.laws.specs.Checks.{all}
-use Rattle.order.specs.Peeling.{acyclic}
 use Rattle.names.specs.Names.{key_count, locality_count}
 use Rattle.images.specs.Net.{net_in_range}
 use Rattle.images.specs.Shape.{ShapedNet}
 use Rattle.images.specs.declared.Script.{Script}
 use Rattle.images.specs.declared.Net as Images
-use Rattle.nets.specs.Net.{Net, events, depends}
+use Rattle.nets.specs.Net.{Net}
 use Rattle.nets.specs.Accepted.{Accepted}
 use Rattle.nets.specs.Accepting.{formed, once_each, tuples_right, localities_right, roots_right, accepted}
 use Rattle.rules.specs.Instance.{rules_of}

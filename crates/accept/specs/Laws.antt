@@ -3,24 +3,15 @@
 --
 -- In order: what each verdict says (`Says`); the first clause that fails (`first_of`), and that the verdict says so (`verdict_says`). The law is in proofs/Laws.
 -- Assumes nothing.
-use Rattle.std.specs.Prelude.{◌≡◌, refl, ◌↔◌, Bool, true, false}
-use Rattle.std.proofs.Common.{subst}
-use Rattle.laws.specs.Choice.{pick, and_left, and_right, and_both}
-use Rattle.laws.specs.Checks.{all}
+use Rattle.std.specs.Prelude.{◌≡◌, refl, Bool, true, false}
+use Rattle.laws.specs.Choice.{pick}
 use Rattle.order.specs.Peeling.{acyclic}
 use Rattle.names.specs.Names.{key_count, locality_count}
-use Rattle.images.specs.Net.{net_in_range}
-use Rattle.images.specs.Shape.{ShapedNet}
 use Rattle.images.specs.declared.Script.{Script}
-use Rattle.images.specs.declared.Net as Images
 use Rattle.nets.specs.Net.{Net, events, depends}
-use Rattle.nets.specs.Accepted.{Accepted}
-use Rattle.nets.specs.Accepting.{formed, once_each, tuples_right, localities_right, roots_right, accepted}
+use Rattle.nets.specs.Accepting.{once_each, tuples_right, localities_right, roots_right}
 use Rattle.rules.specs.Instance.{rules_of}
-use Rattle.rules.specs.Same.{same_body, is_accepted, accepted_is_tested}
-use Rattle.rules.specs.View.{view, beyond}
-use Rattle.accept.specs.Verdict.{all_agree, verdict, verdict_of}
-use Rattle.accept.specs.Forms.{net_formed_lem}
+use Rattle.accept.specs.Verdict.{all_agree, verdict}
 use Rattle.accept.specs.declared.Verdict.{Verdict}
 
 -- ---- what each verdict says

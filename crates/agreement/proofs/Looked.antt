@@ -1,36 +1,23 @@
 -- The tests of an event as the code makes them are those of `Agreement`, since what check 7 found is where it acted (`applies_is`, `second_is`); so an event
 -- is told by the answers to its tests, in their order (`unready` to `second_tells`).
 -- Assumes nothing.
-use Rattle.std.specs.Prelude.{ℕ, ◌+◌, ◌-◌, ◌*◌, ◌<◌, ◌≡◌, Bool, true, false, ◌&&◌, List, eqb, ltb, take, drop}
+use Rattle.std.specs.Prelude.{◌≡◌, Bool, true, false, ◌&&◌}
 use Rattle.std.proofs.Math.Path.{ap, sym}
-use Rattle.std.proofs.Common.{◌∙◌, eq-eqb, ne_eqb, ltb-true}
+use Rattle.std.proofs.Common.{◌∙◌}
 use Rattle.std.proofs.Math.Bool.{and-false}
 use Rattle.laws.specs.Choice.{pick, cases, or_left, or_right, ◌⇒◌}
-use Rattle.laws.specs.Parts.{part_size}
-use Rattle.names.specs.Names.{key_count, node_count, key, key_of, node_of, locality}
-use Rattle.names.specs.Reads.{key_read, key_bad, node_read, node_bad}
+use Rattle.names.specs.Names.{locality}
 use Rattle.names.specs.declared.Key.{Key}
-use Rattle.names.specs.declared.KeyRead.TheVariants as KeyRead
 use Rattle.names.specs.declared.Locality.{Locality}
-use Rattle.names.specs.declared.Localities.{Localities}
-use Rattle.names.specs.declared.Node.{Node}
-use Rattle.names.specs.declared.NodeRead.TheVariants as NodeRead
-use Rattle.images.specs.Script.{action_at}
-use Rattle.images.specs.Net.{slot_at, slot_with, free_slot}
-use Rattle.images.specs.Read.{action_of, script_of, slot_of, net_of}
-use Rattle.images.specs.InPlace.{slot_lent, node_part}
+use Rattle.images.specs.Net.{slot_with}
 use Rattle.images.specs.declared.Action.{Action}
-use Rattle.images.specs.declared.Script.{Script}
 use Rattle.images.specs.declared.Slot.{Slot}
 use Rattle.images.specs.declared.Net.{Net}
-use Rattle.matching.specs.Match.{meets, match_of, matches_meets, differs_not}
-use Rattle.matching.specs.declared.Match.{Match}
-use Rattle.matching.specs.declared.Match.TheVariants as Match
 use Rattle.products.specs.Body.{body_of}
 use Rattle.products.specs.Products.{is_step, is_out, is_eval, meets_tuple, makes_second, target_by, target_there, ready_by}
 use Rattle.products.specs.Acting.{acts_at, readiness, ready_acts, unset_false, acts_there, acts_target, second_at, second_acts}
 use Rattle.products.specs.declared.Readiness.TheVariants as Readiness
-use Rattle.agreement.specs.Agreement.{placed_by, is_tuple, tuple_fits, ruled_by, stands_as, first_stands, second_stands, products_stand, agrees_by, agrees_at, slot_agrees}
+use Rattle.agreement.specs.Agreement.{placed_by, tuple_fits, ruled_by, stands_as, first_stands, second_stands, products_stand, agrees_by}
 use Rattle.agreement.specs.Looked.{applies_at, second_stands_at, agrees_in}
 
 -- ---- where it acted

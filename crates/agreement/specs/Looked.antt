@@ -8,10 +8,9 @@
 use Rattle.std.specs.Prelude.{ℕ, ◌+◌, ◌-◌, ◌*◌, ◌<◌, ◌≡◌, Bool, true, false, ◌&&◌, List, eqb, ltb, take, drop}
 use Rattle.std.proofs.Math.Path.{ap, sym}
 use Rattle.std.proofs.Common.{◌∙◌, eq-eqb, ne_eqb, ltb-true}
-use Rattle.std.proofs.Math.Bool.{and-false}
-use Rattle.laws.specs.Choice.{pick, cases, or_left, or_right, ◌⇒◌}
+use Rattle.laws.specs.Choice.{pick, ◌⇒◌}
 use Rattle.laws.specs.Parts.{part_size}
-use Rattle.names.specs.Names.{key_count, node_count, key, key_of, node_of, locality}
+use Rattle.names.specs.Names.{key_count, node_count, key, key_of, node_of}
 use Rattle.names.specs.Reads.{key_read, key_bad, node_read, node_bad}
 use Rattle.names.specs.declared.Key.{Key}
 use Rattle.names.specs.declared.KeyRead.TheVariants as KeyRead
@@ -29,12 +28,10 @@ use Rattle.images.specs.declared.Slot.{Slot}
 use Rattle.images.specs.declared.Net.{Net}
 use Rattle.matching.specs.Match.{meets, match_of, matches_meets, differs_not}
 use Rattle.matching.specs.declared.Match.{Match}
-use Rattle.matching.specs.declared.Match.TheVariants as Match
 use Rattle.products.specs.Body.{body_of}
-use Rattle.products.specs.Products.{is_step, is_out, is_eval, meets_tuple, makes_second, target_by, target_there, ready_by}
-use Rattle.products.specs.Acting.{acts_at, readiness, ready_acts, unset_false, acts_there, acts_target, second_at, second_acts}
-use Rattle.products.specs.declared.Readiness.TheVariants as Readiness
-use Rattle.agreement.specs.Agreement.{placed_by, is_tuple, tuple_fits, ruled_by, stands_as, first_stands, second_stands, products_stand, agrees_by, agrees_at, slot_agrees}
+use Rattle.products.specs.Products.{is_step, is_out, meets_tuple, makes_second, target_there}
+use Rattle.products.specs.Acting.{second_at}
+use Rattle.agreement.specs.Agreement.{placed_by, is_tuple, tuple_fits, stands_as, agrees_by, agrees_at, slot_agrees}
 
 -- the rule of its node applies to the event x, which acted at l
 unfoldable pub applies_at : Action → Slot → Locality → Net → Bool

@@ -35,7 +35,6 @@ use Rattle.requests.specs.Answers.{Request, Outcome, in_range, outcome}
 use Rattle.requests.specs.Requests.{number, is_done, answer_of, done_number, request_of}
 use Rattle.requests.specs.declared.RequestRead.TheVariants as RequestRead
 use Rattle.requests.specs.declared.Answer.{Answer}
-use Rattle.requests.specs.declared.Answer.TheVariants as Answer
 use Rattle.step.specs.Lent.{Good, told, lent_after}
 use Rattle.machine.specs.Calls.{is_good, script_in, net_in, good_script, good_net, told_by, Reply, refused_with, reply_to, reply}
 use Rattle.machine.specs.After.{Kept}

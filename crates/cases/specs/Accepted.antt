@@ -1,15 +1,14 @@
 -- The theory is about something: the nets of document 01's cases are accepted, before and after their steps.
 -- In order: a net with no past process that is written out (`starts`); the cases' nets; after steps.
 -- Assumes nothing.
-use Rattle.std.specs.Prelude.{ℕ, zero, suc, ◌<◌, ◌≤◌, ◌≡◌, refl, List, [], ◌∷◌, Bool, true, false, ◌&&◌, ◌||◌, eqb, ltb, leb, length, get_or}
-use Rattle.std.proofs.Common.{ap, sym, ◌∙◌, subst, arith, ltb-true, leb-true, le-ltb}
+use Rattle.std.specs.Prelude.{ℕ, zero, suc, ◌<◌, ◌≤◌, ◌≡◌, refl, List, [], ◌∷◌, true, false, ltb, leb, length, get_or}
+use Rattle.std.proofs.Common.{ap, sym, ◌∙◌, subst, arith, leb-true, le-ltb}
 use Rattle.std.proofs.Math.Logic.{by_cases}
 use Rattle.std.proofs.Math.Decide.{dec_lt}
 use Rattle.std.proofs.Math.ListN.{get_or-eq_default}
-use Rattle.laws.specs.Choice.{cases, clash, and_left, and_right}
+use Rattle.laws.specs.Choice.{clash, and_left}
 use Rattle.order.specs.KeySets.{Set, ◌∈◌, any, any_not}
-use Rattle.nets.specs.Rules.{Rules}
-use Rattle.nets.specs.Net.{Kind, free, live, past, tuple, consumed, Slot, Net, free_slot, fresh, is_past, events, held, made_key, took_tuple, read_tuple, made_locality, makes, takes, reads, makes_locality, is_made_locality, depends}
+use Rattle.nets.specs.Net.{Kind, free, live, tuple, consumed, Slot, Net, free_slot, fresh, is_past, held, made_key, took_tuple, read_tuple, made_locality, makes, takes, makes_locality, depends}
 use Rattle.nets.specs.Accepted.{Formed, Root, Accepted}
 use Rattle.images.specs.Net.{process_in_range, tuple_in_range, refs_in_range, variables_in_range, is_datum, is_set, is_unset, refs_are, made_are, data_fill, field_or_blank}
 use Rattle.laws.specs.Lists.{tab}
@@ -27,7 +26,7 @@ use Rattle.requests.specs.Answers.{Request, in_range, places, places_of, tuple_t
 use Rattle.requests.specs.Laws.{forward_can}
 use Rattle.cases.specs.Table.{request}
 use Rattle.laws.specs.Checks.{all}
-use Rattle.cases.specs.Script.{T, T-lawful, rolled, process, tuple_of, pair_of, value, place, net, slots_a, slots_b, slots_c, slots_d, net_a, net_b, net_c, net_d, net_e, net_f, net_g}
+use Rattle.cases.specs.Script.{T, T-lawful, rolled, slots_a, slots_b, slots_c, slots_d, net_a, net_b, net_c, net_d}
 
 apart : ◌≡◌ {A = ℕ} 0 1 → ⊥
 apart z = omega arith

@@ -1,16 +1,16 @@
 -- The dependents of an event of a net that is written out, given as a list: the list is checked, and not computed by 64 rounds.
 -- Assumes nothing.
-use Rattle.std.specs.Prelude.{ℕ, ◌<◌, ◌≤◌, ◌≡◌, refl, List, [], ◌∷◌, Bool, true, false, ◌&&◌, ◌||◌, eqb, length, get_or}
-use Rattle.std.proofs.Common.{ap, sym, ◌∙◌, subst, true≢false, arith, eqb-true}
+use Rattle.std.specs.Prelude.{ℕ, ◌<◌, ◌≤◌, ◌≡◌, refl, List, [], ◌∷◌, Bool, true, false, eqb, length, get_or}
+use Rattle.std.proofs.Common.{ap, sym, subst, arith, eqb-true}
 use Rattle.std.proofs.Math.Logic.{by_cases}
 use Rattle.std.proofs.Math.Decide.{dec_lt}
 use Rattle.std.proofs.Math.ListN.{get_or-eq_default}
-use Rattle.laws.specs.Choice.{cases, clash, and_left, and_right, or_cases, ◌⇒◌, told}
+use Rattle.laws.specs.Choice.{clash, and_left, and_right, or_cases, ◌⇒◌, told}
 use Rattle.laws.specs.Checks.{all, all_at}
-use Rattle.order.specs.KeySets.{Set, ◌∈◌, members}
-use Rattle.order.specs.Graphs.{Graph, Reach, Over, Closed}
+use Rattle.order.specs.KeySets.{Set, members}
+use Rattle.order.specs.Graphs.{Reach, Over}
 use Rattle.order.proofs.Dependents as D
-use Rattle.nets.specs.Net.{Slot, Net, free_slot, is_past, events, made_key, read_tuple, makes, reads, takes, depends, dependents}
+use Rattle.nets.specs.Net.{Slot, Net, free_slot, is_past, events, made_key, read_tuple, makes, reads, depends, dependents}
 use Rattle.cases.specs.Script.{T}
 
 -- it holds of each key of the list

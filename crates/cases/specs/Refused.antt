@@ -2,13 +2,12 @@
 -- In order: a small script and its rules; an event that made itself; an in before a read of its tuple, and two of them crossed; an eval that
 -- made one key twice; an out at an absent locality.
 -- Assumes nothing.
-use Rattle.std.specs.Prelude.{ℕ, ◌-◌, ◌<◌, ◌≡◌, refl, List, [], ◌∷◌, ◌++◌, Bool, true, false, ◌&&◌, ◌||◌, eqb, ltb, length, get_or, replicate}
-use Rattle.std.proofs.Common.{sym, ◌∙◌, true≢false, eqb-true, ltb-true}
-use Rattle.laws.specs.Choice.{pick, clash, and_left, and_right}
-use Rattle.laws.specs.Checks.{all, all_at}
-use Rattle.order.specs.Graphs.{Reach, here, step}
-use Rattle.names.specs.Names.{node_count, none, key, locality, node, reference}
-use Rattle.images.specs.Script.{field0, node_in_place, target_in_place, reference_in_place, field_in_range, count_in_place, field_in_place, fields_in_place, same_formal, fresh_formal, formals_distinct, places_in_row, fields_in_row, action_in_range, script_in_range, action_at, field_at}
+use Rattle.std.specs.Prelude.{ℕ, ◌≡◌, refl, List, [], ◌∷◌, Bool, true, false, ◌||◌, eqb, get_or, replicate}
+use Rattle.std.proofs.Common.{sym, true≢false}
+use Rattle.laws.specs.Checks.{all}
+use Rattle.order.specs.Graphs.{here, step}
+use Rattle.names.specs.Names.{none, key, locality, node}
+use Rattle.images.specs.Script.{node_in_place, target_in_place, reference_in_place, field_in_range, count_in_place, field_in_place, fields_in_place, same_formal, fresh_formal, formals_distinct, places_in_row, fields_in_row, action_in_range, script_in_range}
 use Rattle.images.specs.Net.{datum0, refs_are, process_in_range, tuple_in_range, refs_in_range, variables_in_range, is_datum, is_set, is_unset, made_are, data_fill, field_or_blank}
 use Rattle.images.specs.Read.{nil_action}
 use Rattle.images.specs.Examples.{field, action}
@@ -20,11 +19,11 @@ use Rattle.matching.specs.Evaluate
 use Rattle.matching.specs.Evaluate.{target_of, actual, fields_ready}
 use Rattle.matching.specs.Match.{meets, place_meets, field_meets, bound, bind_up_to, bind_one}
 use Rattle.nets.specs.Rules.{Rules}
-use Rattle.nets.specs.Net.{Kind, free, live, past, tuple, consumed, Slot, Net, free_slot, fresh, made_key, took_tuple, read_tuple, made_locality, depends}
+use Rattle.nets.specs.Net.{Kind, live, past, tuple, consumed, Slot, Net, free_slot, fresh, made_key, took_tuple, read_tuple, made_locality, depends}
 use Rattle.nets.specs.Rule.{product}
 use Rattle.nets.specs.Accepted.{Accepted}
 use Rattle.products.specs.Body.{Body}
-use Rattle.products.specs.Products.{target, is_ready, fits, continuation, second_made, tuple_made, process_made, variables_after, references_after, continued_by, process_by, ready_by, second_by, target_by, tuple_by}
+use Rattle.products.specs.Products.{fits, variables_after, references_after, continued_by, process_by, ready_by, second_by, target_by, tuple_by}
 use Rattle.laws.specs.Lists.{tab}
 use Rattle.order.specs.KeySets.{any}
 use Rattle.order.specs.Dependents

@@ -1,19 +1,16 @@
 -- Script T of document 01, its rules, and the nets of the cases.
 -- Assumes nothing.
-use Rattle.std.specs.Prelude.{ℕ, ◌<◌, ◌≡◌, refl, List, [], ◌∷◌, Bool, true, false, ◌&&◌, ◌||◌, eqb, ltb, length, get_or, replicate}
-use Rattle.std.proofs.Common.{ap, sym, ◌∙◌, eqb-true, ltb-true}
-use Rattle.laws.specs.Choice.{pick, and_left, and_right}
-use Rattle.laws.specs.Lists.{tab}
-use Rattle.laws.specs.Checks.{all, all_at}
-use Rattle.names.specs.Names.{key_count, node_count, none, key, locality, node, reference_count}
+use Rattle.std.specs.Prelude.{ℕ, ◌≡◌, refl, List, [], ◌∷◌, true, ltb, get_or, replicate}
+use Rattle.laws.specs.Checks.{all}
+use Rattle.names.specs.Names.{none, key, locality, node}
 use Rattle.names.specs.declared.Key.{Key}
-use Rattle.images.specs.Script.{node_in_place, target_in_place, reference_in_place, field_in_range, count_in_place, field_in_place, fields_in_place, same_formal, fresh_formal, formals_distinct, places_in_row, fields_in_row, action_in_range, script_in_range, action_at, field_at}
+use Rattle.images.specs.Script.{node_in_place, target_in_place, reference_in_place, field_in_range, count_in_place, field_in_place, fields_in_place, same_formal, fresh_formal, formals_distinct, places_in_row, fields_in_row, action_in_range, script_in_range}
 use Rattle.images.specs.Net.{datum0}
 use Rattle.images.specs.Shape.{ShapedScript}
 use Rattle.images.specs.Examples.{script_t}
 use Rattle.images.specs.declared.Datum.{Datum}
 use Rattle.nets.specs.Rules.{Rules, Lawful}
-use Rattle.nets.specs.Net.{Kind, free, live, past, tuple, consumed, Slot, Net, free_slot, fresh}
+use Rattle.nets.specs.Net.{live, past, tuple, consumed, Slot, Net, free_slot, fresh}
 use Rattle.products.specs.Body.{Body}
 use Rattle.rules.specs.Instance.{rules_of, lawful_of}
 use Rattle.rules.specs.Roots.{rolled_by}

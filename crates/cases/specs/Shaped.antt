@@ -1,6 +1,6 @@
 -- A script that is written out is a value of the code's type: one test over its nodes.
 -- Assumes nothing.
-use Rattle.std.specs.Prelude.{ℕ, ◌≡◌, Bool, true, ◌&&◌, eqb, ltb, length}
+use Rattle.std.specs.Prelude.{◌≡◌, Bool, true, ◌&&◌, eqb, ltb, length}
 use Rattle.std.proofs.Common.{eqb-true, ltb-true}
 use Rattle.laws.specs.Choice.{and_left, and_right}
 use Rattle.laws.specs.Checks.{all, all_at}

@@ -1,6 +1,6 @@
 -- The bits of a packed word give back what was packed, so that no two replies share a word.
 -- Assumes nothing.
-use Rattle.std.specs.Prelude.{ℕ, ◌+◌, ◌*◌, ◌<◌, ◌/◌, ◌%◌, ◌≡◌}
+use Rattle.std.specs.Prelude.{ℕ, ◌<◌, ◌/◌, ◌%◌, ◌≡◌}
 use Rattle.std.proofs.Common.{arith}
 use Rattle.exports.specs.Packed.{packed}
 

@@ -30,7 +30,6 @@ use Rattle.requests.specs.Answers.{forward_checks}
 use Rattle.requests.specs.Requests.{answer_of, number, is_done, number_back, done_zero, asked}
 use Rattle.requests.specs.declared.Request.{Request}
 use Rattle.requests.specs.declared.Answer.{Answer}
-use Rattle.requests.specs.declared.Answer.TheVariants as Answer
 use Rattle.finder.specs.Least.{least_or_none, Least, least_split, given_least, given_none, given_same}
 use Rattle.finder.specs.Finder.{meeting, before_search, finder_checks, least_meeting, found_of}
 use Rattle.finder.specs.Helpers.{free_key, is_absent, absent_locality}

@@ -32,7 +32,6 @@ use Rattle.images.specs.declared.Slot as Image
 use Rattle.images.specs.declared.Net as Images
 use Rattle.matching.specs.Match.{meets, match_of, matches_meets, differs_not}
 use Rattle.matching.specs.declared.Match.{Match}
-use Rattle.matching.specs.declared.Match.TheVariants as Match
 use Rattle.nets.specs.Rules.{Rules, uses, aims}
 use Rattle.nets.specs.Net as N
 use Rattle.nets.specs.Net.{is_live}

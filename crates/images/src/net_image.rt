@@ -517,7 +517,7 @@ pub fn put_slot(k: Key, x: Slot, d: &mut [u8])
 // The slot is written at its key, whose contents and references it keeps; where there is no such key, nothing is.
 pub fn put_keeping(k: Key, x: Slot, d: &mut [u8])
     requires sized { Sized d.old }
-    requires contents_value { (x.contents ≡ (slot_with (net_of d.old) k).contents) × (x.refs ≡ (slot_with (net_of d.old) k).refs) }
+    requires kept { (x.contents ≡ (slot_with (net_of d.old) k).contents) × (x.refs ≡ (slot_with (net_of d.old) k).refs) }
     ensures { d.new ≡ slot_put k x d.old }
 {
     if !k.is_key() {
@@ -727,7 +727,7 @@ fn write_slot(s: Slot, p: &mut [u8])
 // A slot whose contents and references stand there already: only what is around them is written.
 fn write_around(s: Slot, p: &mut [u8])
     requires slot_sized { SlotSized p.old }
-    requires contents_value { (s.contents ≡ (slot_of p.old).contents) × (s.refs ≡ (slot_of p.old).refs) }
+    requires kept { (s.contents ≡ (slot_of p.old).contents) × (s.refs ≡ (slot_of p.old).refs) }
     ensures { p.new ≡ slot_bytes s }
 {
     write_first(s, &mut p[0..TAGS]);

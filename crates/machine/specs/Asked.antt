@@ -14,7 +14,6 @@ use Rattle.images.specs.Sizes.{Scripted, Sized}
 use Rattle.images.specs.declared.Net.{Net}
 use Rattle.requests.specs.Requests.{is_done}
 use Rattle.requests.specs.declared.Answer.{Answer}
-use Rattle.requests.specs.declared.Answer.TheVariants as Answer
 use Rattle.finder.specs.Finder.{found, found_of}
 use Rattle.finder.specs.Helpers.{free_key, absent_locality}
 use Rattle.finder.specs.declared.Found.{Found}

@@ -7,7 +7,6 @@ use Rattle.names.specs.Names.{none, key, locality}
 use Rattle.names.specs.declared.Locality.{Locality}
 use Rattle.requests.specs.Requests.{is_done}
 use Rattle.requests.specs.declared.Answer.{Answer}
-use Rattle.requests.specs.declared.Answer.TheVariants as Answer
 use Rattle.finder.specs.Finder.{found, found_of}
 use Rattle.finder.specs.Helpers.{free_key, absent_locality}
 use Rattle.finder.specs.declared.Found.{Found}

@@ -45,9 +45,7 @@ use Rattle.requests.specs.Laws.{forward_can, undo_can}
 use Rattle.requests.specs.Requests.{asked, number, is_done, answers, answer_of, is_number, number_of, Known, refusal_known, done_number, request_of, read_request}
 use Rattle.requests.specs.declared.Request.{Request}
 use Rattle.requests.specs.declared.RequestRead.{RequestRead}
-use Rattle.requests.specs.declared.RequestRead.TheVariants as RequestRead
 use Rattle.requests.specs.declared.Answer.{Answer}
-use Rattle.requests.specs.declared.Answer.TheVariants as Answer
 use Rattle.step.specs.Lent.{Good, Outcome, told, lent_after}
 use Rattle.step.specs.Lent as Lent
 use Rattle.rollback.specs.Rollback.{roll_answer}

@@ -30,14 +30,11 @@ use Rattle.rules.specs.View.{view, beyond}
 use Rattle.accept.specs.Verdict.{verdict_of}
 use Rattle.accept.proofs.Laws.{accepted_verdict}
 use Rattle.accept.specs.declared.Verdict.{Verdict}
-use Rattle.accept.specs.declared.Verdict.TheVariants as Verdict
 use Rattle.requests.specs.Answers.{in_range}
 use Rattle.requests.specs.Requests.{asked, is_done, refusal, request_of, read_request}
 use Rattle.requests.specs.declared.Request.{Request}
 use Rattle.requests.specs.declared.RequestRead.{RequestRead}
-use Rattle.requests.specs.declared.RequestRead.TheVariants as RequestRead
 use Rattle.requests.specs.declared.Answer.{Answer}
-use Rattle.requests.specs.declared.Answer.TheVariants as Answer
 use Rattle.requests.specs.declared.Told.{Told}
 use Rattle.step.specs.Lent.{Good}
 use Rattle.step.specs.Stepped.{Serves}

@@ -8,7 +8,6 @@ use Rattle.laws.specs.Choice.{pick}
 use Rattle.names.specs.Localities.{localities}
 use Rattle.images.specs.Read.{read_script, read_net}
 use Rattle.images.specs.declared.Form.{Form}
-use Rattle.images.specs.declared.Form.TheVariants as Form
 use Rattle.images.specs.declared.Script.{Script}
 use Rattle.images.specs.declared.Net.{Net}
 use Rattle.rules.specs.Instance.{rules_of}
@@ -20,9 +19,7 @@ use Rattle.requests.specs.Answers as Theory
 use Rattle.requests.specs.Requests.{asked, is_done, answer_of, refusal, read_request}
 use Rattle.requests.specs.declared.Request.{Request}
 use Rattle.requests.specs.declared.RequestRead.{RequestRead}
-use Rattle.requests.specs.declared.RequestRead.TheVariants as RequestRead
 use Rattle.requests.specs.declared.Answer.{Answer}
-use Rattle.requests.specs.declared.Answer.TheVariants as Answer
 use Rattle.requests.specs.declared.Told.{Told}
 use Rattle.step.specs.Lent.{Outcome, told, lent_after}
 

@@ -31,7 +31,6 @@ use Rattle.requests.specs.Answers.{in_range, places, forward_checks, backward_ch
 use Rattle.requests.specs.Requests.{asked, is_done, answer_of, done_number, done_zero}
 use Rattle.requests.specs.declared.Request.{Request}
 use Rattle.requests.specs.declared.Answer.{Answer}
-use Rattle.requests.specs.declared.Answer.TheVariants as Answer
 use Rattle.step.specs.Lent.{Good, Outcome, outcome_by}
 use Rattle.step.specs.Lent as Lent
 use Rattle.step.specs.Change.{refused, stepped, applied, stepped_to}

@@ -4,7 +4,7 @@
 -- Assumes nothing.
 use Rattle.std.specs.Prelude.{◌≡◌, ◌↔◌, Bool, ◌&&◌, ◌||◌, ℕ, ◌<◌, ltb}
 use Rattle.std.proofs.Math.Path.{refl, ap, subst}
-use Rattle.std.proofs.Common.{sym, ◌∙◌, ⊎_elim, true≢false, arith}
+use Rattle.std.proofs.Common.{sym, ◌∙◌, true≢false, arith}
 use Rattle.std.proofs.Math.Logic.{by_cases}
 use Rattle.std.proofs.Math.Bool.{true, false, not}
 use Rattle.std.proofs.lemmas.Bool.{false≢true}
@@ -20,7 +20,7 @@ use Rattle.nets.specs.Rules.{Rules, take_uses, none, acts, aims, uses, is_newloc
 use Rattle.nets.specs.Net.{is_held, kind_number, is_live_tuple, Kind, free, live, past, tuple, consumed, is_consumed, Slot, Net, free_slot, fresh, forget, events, held, made_key, took_tuple, made_locality, makes, takes, makes_locality, is_made, is_made_locality, depends}
 use Rattle.nets.specs.Rule.{met, product, Places, Rule}
 use Rattle.nets.specs.Accepted.{Bounded, Formed, Agrees, Root, Accepted}
-use Rattle.nets.specs.Records.{same_kind, OfEvents, same_slot_lem, made_past, made_below, made_cases, took_past, took_act, took_is, locality_past, locality_makeable}
+use Rattle.nets.specs.Records.{same_kind, OfEvents, same_slot_lem, made_past, made_below, took_past, took_act, took_is, locality_past, locality_makeable}
 use Rattle.nets.proofs.Events.{bounded_held, bounded_event, bounded_among}
 use Rattle.nets.specs.Accepting.{ruled, once_each, tuples_right, localities_right, roots_right, same_slot, formed_as, formed, agreed, accepted, placed, fitting}
 

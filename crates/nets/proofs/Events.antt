@@ -12,7 +12,7 @@ use Rattle.std.proofs.Math.Decide.{dec_lt}
 use Rattle.laws.specs.Choice.{cases, clash, and_left, and_right, and_both, or_left, or_right, or_cases, fails}
 use Rattle.order.specs.KeySets.{◌∈◌}
 use Rattle.order.specs.Graphs.{Among, among_over, Over, Last}
-use Rattle.nets.specs.Rules.{Rules, none, uses, is_take, is_read, take_uses, read_uses}
+use Rattle.nets.specs.Rules.{Rules, uses, is_take, is_read, take_uses, read_uses}
 use Rattle.nets.specs.Net.{is_held, Cause, made_key_lem, made_tuple, read_before, Kind, free, live, past, tuple, consumed, is_free, is_past, is_consumed, Net, forget, events, held, makes, takes, reads, depends}
 use Rattle.nets.specs.Rule.{met, product}
 use Rattle.nets.specs.Undo.{Undoable}

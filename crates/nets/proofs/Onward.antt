@@ -14,7 +14,7 @@ use Rattle.std.proofs.lemmas.Bool.{eqb-false, not-true}
 use Rattle.laws.specs.Choice.{cases, clash, and_left, and_right, or_left, or_right, or_cases, fails, agree}
 use Rattle.order.specs.KeySets.{◌∈◌, ◌∉◌, empty, any_of, any_some, any_not}
 use Rattle.order.specs.Graphs.{acyclic_more}
-use Rattle.nets.specs.Rules.{Rules, Lawful, none, uses, take_uses, read_uses, take_not_read}
+use Rattle.nets.specs.Rules.{Rules, Lawful, uses, take_uses, read_uses, take_not_read}
 use Rattle.nets.specs.Net.{is_held, Cause, made_key_lem, made_tuple, read_before, Kind, free, live, tuple, consumed, is_free, is_past, is_consumed, Slot, Net, free_slot, fresh, forget, events, held, made_key, took_tuple, read_tuple, made_locality, makes, takes, makes_locality, is_made, is_made_locality, depends}
 use Rattle.nets.specs.Rule.{met, product}
 use Rattle.nets.specs.Forward.{Request, done, after, forward, Can}

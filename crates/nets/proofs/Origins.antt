@@ -5,7 +5,7 @@
 -- that it is left alone when its newloc may be undone (`left_alone`); references (`reference_from`). What `concerns` a locality, `Alone` and
 -- `Reference` are in specs/.
 -- Assumes nothing.
-use Rattle.std.specs.Prelude.{◌≡◌, ◌⊎◌, Bool, true, false, not, ◌||◌, ℕ, eqb}
+use Rattle.std.specs.Prelude.{◌≡◌, ◌⊎◌, Bool, true, false, not, ℕ, eqb}
 use Rattle.std.proofs.Common.{sym, ◌∙◌, ap, inl, inr, ⊎_elim, arith, eqb-true, eq-eqb}
 use Rattle.laws.specs.Choice.{cases, clash, or_left, or_right, or_cases, fails}
 use Rattle.order.specs.KeySets.{◌∈◌, any_of, any_some}

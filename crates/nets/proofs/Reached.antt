@@ -3,12 +3,11 @@
 --
 -- In order, of `Reached` in specs/: steps in a row, in the words of `order` and back (`forwards_there`, `forwards_back`); the law (`accepted_iff`).
 -- Assumes nothing.
-use Rattle.std.specs.Prelude.{◌↔◌, ℕ}
-use Rattle.order.specs.KeySets.{◌∉◌}
+use Rattle.std.specs.Prelude.{◌↔◌}
 use Rattle.order.specs.Replay.{Redoing}
 use Rattle.order.specs.Replay as P
 use Rattle.nets.specs.Rules.{Rules, Lawful}
-use Rattle.nets.specs.Net.{Net, events}
+use Rattle.nets.specs.Net.{Net}
 use Rattle.nets.specs.Forward.{Forward, Forwards, start, more}
 use Rattle.nets.specs.Accepted.{Accepted}
 use Rattle.nets.specs.Reached.{Reached}

@@ -6,12 +6,12 @@
 -- some key is no event (`not_all_past`), each event makes a key that no other makes, so undone is below the number of keys
 -- (`undone_below`) and at most the number of made keys (`undone_made`).
 -- Assumes nothing.
-use Rattle.std.specs.Prelude.{◌≡◌, true, ℕ, zero, suc, ◌≤◌, ◌<◌, length}
+use Rattle.std.specs.Prelude.{◌≡◌, true, ℕ, zero, suc, ◌≤◌, ◌<◌}
 use Rattle.std.proofs.Math.Path.{refl, ap}
 use Rattle.std.proofs.Common.{sym, ◌∙◌, zero-le, arith, eqb-true, ne_eqb}
 use mathlib.Core.List.{List, [], ◌∷◌}
 use Rattle.laws.specs.Choice.{cases, clash, and_both}
-use Rattle.order.specs.KeySets.{Set, ◌∈◌, ◌⊆◌, only, ◌∪◌, ◌∩◌, ◌∖◌, members, in_minus, any_of, count, count_le, count_subset, count_strict, count_minus}
+use Rattle.order.specs.KeySets.{Set, ◌∈◌, ◌⊆◌, only, ◌∪◌, ◌∩◌, ◌∖◌, in_minus, any_of, count, count_le, count_subset, count_strict, count_minus}
 use Rattle.order.specs.Graphs.{last_from, among_closed}
 use Rattle.order.proofs.Dependents.{dependents_iff, dependents_inside}
 use Rattle.order.specs.Undoing.{Undoing}

@@ -5,7 +5,7 @@
 -- localities and roots as they must be (`tuples_right`, `localities_right`, `roots_right`); records that are the same (`same_slot`); the form
 -- of a slot (`formed`); an event and what it made (`agreed`); `accepted`.
 -- Assumes nothing.
-use Rattle.std.specs.Prelude.{Bool, true, false, not, ◌&&◌, ◌||◌, ℕ, eqb, ltb}
+use Rattle.std.specs.Prelude.{Bool, not, ◌&&◌, ◌||◌, ℕ, eqb, ltb}
 use Rattle.laws.specs.Choice.{pick, sameb, ◌⇒◌}
 use Rattle.laws.specs.Checks.{all}
 use Rattle.order.specs.KeySets.{any}

@@ -5,13 +5,13 @@
 -- Not here: last members taken away one at a time (`Taking`); where such a loop ends with nothing left, `emptied` says that there is no
 -- cycle, and where it sticks with a member left, `last_from` (`Graphs`) says that there is one.
 -- Assumes nothing.
-use Rattle.std.specs.Prelude.{◌≡◌, ◌↔◌, ◌&&◌}
+use Rattle.std.specs.Prelude.{◌≡◌, ◌↔◌}
 use Rattle.std.proofs.Math.Bool.{true, not}
 use Prim.Native.Nat.{ℕ, zero, suc, ◌-◌, ◌≤◌, ◌<◌}
 use Rattle.std.proofs.Common.{arith}
 use Rattle.std.proofs.lemmas.Bool.{not-true}
 use Rattle.laws.specs.Choice.{clash, and_left, and_right, and_both, fails}
-use Rattle.order.specs.KeySets.{Set, ◌∈◌, ◌∉◌, ◌⊆◌, ◌∩◌, ◌∖◌, in_minus, minus_in, minus_out}
+use Rattle.order.specs.KeySets.{Set, ◌∈◌, ◌∉◌, ◌⊆◌, ◌∩◌, in_minus, minus_in, minus_out}
 use Rattle.order.specs.KeySets.{any, any_of, any_not, search, count, count_le, count_some, count_none, count_subset, count_strict}
 use Rattle.order.specs.Graphs.{Graph, Reach, Acyclic, Over, Among, among_over, Founded, founded_reach, Last, last_from}
 use Rattle.order.specs.Dependents.{rounds}

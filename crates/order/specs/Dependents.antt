@@ -6,11 +6,11 @@
 -- Assumes nothing.
 use Rattle.std.specs.Prelude.{◌≡◌, ◌↔◌, true, ◌&&◌, ◌||◌}
 use Prim.Native.Nat.{ℕ, zero, suc, ◌≤◌, ◌<◌, zero-le}
-use Rattle.std.proofs.Common.{arith, eqb-true}
+use Rattle.std.proofs.Common.{arith}
 use Rattle.laws.specs.Choice.{cases, clash, and_left, and_right, and_both, or_left, or_right, or_cases}
-use Rattle.order.specs.KeySets.{Set, ◌∈◌, ◌⊆◌, only, only_self, ◌∖◌, in_minus, minus_in, minus_out, same_set}
+use Rattle.order.specs.KeySets.{Set, ◌∈◌, ◌⊆◌, only, ◌∖◌, in_minus, minus_in, minus_out, same_set}
 use Rattle.order.specs.KeySets.{any, any_of, any_some, search, count, count_le, count_strict}
-use Rattle.order.specs.Graphs.{Graph, Reach, here, reach_trans, reach_more, Over, Closed, closed_reach}
+use Rattle.order.specs.Graphs.{Graph, Reach, here, reach_more, Over, Closed, closed_reach}
 
 -- k rounds of F, from S on
 unfoldable pub rounds : ℕ → (Set → Set) → Set → Set

@@ -13,9 +13,9 @@ use Rattle.std.specs.Prelude.{◌≡◌, refl, ◌↔◌, List, [], ◌∷◌, �
 use Rattle.std.proofs.Math.Path.{sym, ap}
 use Rattle.std.proofs.Common.{◌∙◌}
 use Rattle.order.specs.KeySets.{Set, ◌∈◌, ◌∉◌, ◌⊆◌, empty, only, ◌∪◌, ◌∖◌, members, count}
-use Rattle.order.specs.Graphs.{Graph, Fewer, Acyclic, Over, Among, among_over, among_closed, among_founded, Closed, closed_reach, Last}
+use Rattle.order.specs.Graphs.{Graph, Fewer, Acyclic, Over, Among, among_over, Closed, Last}
 use Rattle.order.specs.Dependents.{dependents}
-use Rattle.order.specs.Taking.{Taken, TakenAll, done, next, taken_in, taken_fewer, last_fewer, never_sticks, all_taken, same_count, take_all, none_left_out}
+use Rattle.order.specs.Taking.{Taken, TakenAll, done, next, taken_fewer, last_fewer, never_sticks, all_taken, same_count, take_all}
 
 pub record Undoing (n : ℕ) : Type 1 where
   pub Net : Type 0

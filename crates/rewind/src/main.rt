@@ -69,10 +69,7 @@ fn keep_rest(input: &mut [u8], whole: usize) -> usize
 fn read_some(source: &mut impl Read, room: &mut [u8]) -> usize
     ensures { result ≤ length room.new }
 {
-    match source.read(room) {
-        Ok(got) => got,
-        Err(_) => 0,
-    }
+    source.read(room).unwrap_or(0)
 }
 
 // Reads until the room is full or the input ends; how many bytes it put at the front.

@@ -1,48 +1,27 @@
 -- The checks of a rollback and a roll, from what was looked up, and what a done one says of the event (`rollback_found`, `rollback_found_event`, `roll_found`,
 -- `roll_found_event`, `roll_found_held`).
 -- Assumes nothing.
-use Prim.Native.Nat.{ℕ, zero, suc, ◌<◌}
-use Rattle.std.proofs.Common.{le_of_suc-le-suc, not-suc-le-zero, ◌∙◌, arith}
-use Rattle.std.specs.Prelude.{◌≡◌, Bool, not, ◌&&◌, List, [], ◌∷◌, eqb, ltb, length, get_or}
-use Rattle.std.proofs.Math.Path.{refl, sym, ap, subst}
-use Rattle.std.proofs.Math.Bool.{true, false}
-use Rattle.std.proofs.lemmas.Bool.{false≢true}
-use borrow.Author.Tests.{eqb-true, eqb-false, eq-eqb, ltb-true, not-true}
-use Rattle.laws.specs.Choice.{pick, cases, and_left, and_right, and_both}
-use Rattle.laws.specs.Checks.{all, all_at}
-use Rattle.order.specs.KeySets.{◌∈◌, any, any_of}
-use Rattle.names.specs.Names.{key_count, node_count, reference_count, none, key, is_node, is_locality, is_key_or_none, below_or_none}
+use Rattle.std.proofs.Common.{◌∙◌}
+use Rattle.std.specs.Prelude.{◌≡◌}
+use Rattle.std.proofs.Math.Path.{sym, ap, subst}
+use Rattle.std.proofs.Math.Bool.{true}
+use Rattle.order.specs.KeySets.{◌∈◌}
 use Rattle.names.specs.declared.Key.{Key}
-use Rattle.images.specs.Net.{slot_with, refs_in_range, process_in_range}
+use Rattle.images.specs.Net.{slot_with}
 use Rattle.images.specs.Read.{node_with}
-use Rattle.images.specs.Script.{action_at}
 use Rattle.images.specs.Shape.{ShapedScript, ShapedNet}
 use Rattle.images.specs.declared.Action.{Action}
 use Rattle.images.specs.declared.Script.{Script}
 use Rattle.images.specs.declared.Slot as Image
 use Rattle.images.specs.declared.Net as Images
-use Rattle.nets.specs.Rules.{Act, number}
-use Rattle.nets.specs.Rules as R
-use Rattle.nets.specs.Net as N
-use Rattle.nets.specs.Net.{Kind, free, live, past, tuple, consumed, is_live, is_past, events, held}
-use Rattle.products.specs.Products.{is_split}
-use Rattle.products.specs.Body.{Body, body_of, is_process}
-use Rattle.rules.specs.Instance.{rules_of, act_of, same_kind}
-use Rattle.rules.specs.Acts.{split_is}
-use Rattle.rules.specs.Roots.{refers, rolled_by}
-use Rattle.rules.specs.View.{view, view_with, live_is, past_is}
-use Rattle.rules.specs.Theorems.{reference_held}
-use Rattle.requests.specs.Checks as C
-use Rattle.requests.specs.Checks.{check, refusal, all_hold}
-use Rattle.requests.specs.Answers.{no_places, rollback_checks, roll_checks}
-use Rattle.requests.specs.Requests.{asked, is_done, answer_of}
+use Rattle.nets.specs.Net.{events}
+use Rattle.rules.specs.Roots.{rolled_by}
+use Rattle.rules.specs.View.{view}
+use Rattle.requests.specs.Checks.{refusal}
+use Rattle.requests.specs.Requests.{is_done, answer_of}
 use Rattle.requests.specs.declared.Request.{Request}
 use Rattle.requests.specs.declared.Answer.{Answer}
 use Rattle.step.specs.Lent.{Good}
-use Rattle.step.specs.Tested.{kind_is, node_is, no_node}
-use Rattle.step.specs.Laws.{done_zero}
-use Rattle.ranges.specs.Slots.{free_in_range_lem, live_process_lem, process_node}
-use Rattle.ranges.specs.Written.{InRange, slot_with_lem, range_each}
 use Rattle.rollback.specs.Rollback.{rollback_answer, roll_answer}
 use Rattle.rollback.specs.Checked.{held_by, rollback_tests, roll_tests, rollback_checked, roll_checked, rollback_event, roll_event, roll_held}
 

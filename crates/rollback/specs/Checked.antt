@@ -40,7 +40,6 @@ use Rattle.requests.specs.Checks.{check, refusal, all_hold}
 use Rattle.requests.specs.Answers.{no_places, rollback_checks, roll_checks}
 use Rattle.requests.specs.Requests.{asked, is_done, answer_of}
 use Rattle.requests.specs.declared.Request.{Request}
-use Rattle.requests.specs.declared.Answer.{Answer}
 use Rattle.step.specs.Lent.{Good}
 use Rattle.step.specs.Tested.{kind_is, node_is, no_node}
 use Rattle.step.specs.Laws.{done_zero}

@@ -4,10 +4,10 @@
 -- (`walk_form`, `walk_good`); the walk goes on (`walk_on`), with fewer to come (`walk_less`); it undoes one (`walk_undoable`, `walk_few`) and begins anew (`walk_next`, `walk_anew`), or is at its
 -- end (`walk_done`); the same of an equal set (`gives_same`).
 -- Assumes nothing.
-use Rattle.std.specs.Prelude.{ℕ, ◌+◌, ◌*◌, ◌-◌, ◌<◌, ◌≡◌, refl, true, List, [], ◌∷◌, ◌++◌}
+use Rattle.std.specs.Prelude.{ℕ, ◌+◌, ◌*◌, ◌-◌, ◌<◌, ◌≡◌, true, List, [], ◌∷◌, ◌++◌}
 use Rattle.std.proofs.Common.{arith, sym, ap, ◌∙◌, subst}
 use Rattle.std.specs.Int.Bits.{bit_or}
-use Rattle.order.specs.KeySets.{Set, ◌∈◌, members, count, count_le}
+use Rattle.order.specs.KeySets.{Set, ◌∈◌, count, count_le}
 use Rattle.names.specs.Names.{key_count}
 use Rattle.names.specs.Localities.{localities}
 use Rattle.names.specs.declared.Key.{Key}
@@ -28,7 +28,6 @@ use Rattle.step.specs.Backward.{undone_at}
 use Rattle.step.specs.InPlace.{change_bytes, change_bytes_lem}
 use Rattle.step.specs.Way.{way_of}
 use Rattle.step.specs.declared.backward.Way.{Way}
-use Rattle.step.specs.declared.backward.Way.TheVariants as Way
 use Rattle.rollback.specs.Rollback.{undone_all, rolled_back}
 use Rattle.rollback.specs.Undone.{Rolled, rolled_first, net_accepted, met_first, met_next, met_less, met_few, met_undoable, rolled_next, still_stands, rolled_all, last_in}
 

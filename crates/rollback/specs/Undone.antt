@@ -6,13 +6,13 @@
 -- (`met_undoable`), fewer were undone than there are keys (`met_few`), and one more is (`rolled_next`), the event itself still standing if it was another (`still_stands`); once
 -- the event itself is undone, all is done (`rolled_all`).
 -- Assumes nothing.
-use Rattle.std.specs.Prelude.{◌≡◌, refl, Bool, true, false, ◌||◌, List, [], ◌∷◌, ◌++◌, ℕ, ◌+◌, ◌<◌, eqb, length}
+use Rattle.std.specs.Prelude.{◌≡◌, refl, Bool, true, false, ◌||◌, List, [], ◌∷◌, ◌++◌, ℕ, ◌+◌, ◌<◌, length}
 use Rattle.std.proofs.Math.Path.{sym, ap}
 use Rattle.std.proofs.Common.{ap₂, ◌∙◌, subst, arith, length-append, pow_pos, eqb-true, ne_eqb}
 use Rattle.std.proofs.lemmas.Bool.{false≢true}
 use Rattle.std.specs.Int.Bits.{bit_or}
 use Rattle.std.proofs.lemmas.Nat.{or_lt}
-use Rattle.laws.specs.Choice.{cases, clash, fails, or_left, or_right, or_cases}
+use Rattle.laws.specs.Choice.{clash, fails, or_left, or_right, or_cases}
 use Rattle.laws.specs.Sets.{member_or, member_empty}
 use Rattle.order.specs.KeySets.{Set, ◌∈◌, ◌∉◌, ◌⊆◌, empty, only, only_self, ◌∪◌, ◌∖◌, members, members_append, minus_out, in_minus, count, count_le, count_strict}
 use Rattle.order.specs.Words.{word_of, word_of_is, word_of_in, word_of_lt}

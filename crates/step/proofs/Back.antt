@@ -47,7 +47,6 @@ use Rattle.requests.specs.Laws.{undo_can, can_undo_lem}
 use Rattle.requests.specs.Requests.{asked, is_done, refusal}
 use Rattle.requests.specs.declared.Request.{Request}
 use Rattle.requests.specs.declared.Answer.{Answer}
-use Rattle.requests.specs.declared.Answer.TheVariants as Answer
 use Rattle.requests.specs.declared.Told.{Told}
 use Rattle.step.specs.Lent.{Lent}
 use Rattle.step.specs.Change.{refused, stepped_yes, stepped_no}
@@ -57,7 +56,6 @@ use Rattle.step.specs.Stepped.{Serves}
 use Rattle.step.proofs.Stepped.{change_refused, change_written}
 use Rattle.step.specs.Way.{used_by, taken_by, user_of, taker_of, way_of, least_here, least_none, unused_event, unused_other, used_yes, untaken_event, untaken_other, untaken_node, taken_yes, taken_is, clear_undoable, behind_not}
 use Rattle.step.specs.declared.backward.Way.{Way}
-use Rattle.step.specs.declared.backward.Way.TheVariants as Way
 
 -- ---- loops over the keys
 

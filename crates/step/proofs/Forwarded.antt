@@ -2,7 +2,7 @@
 -- In order: the node at which the process of a request is and its bytes in the lent script (`start_of`, `node_from`, `node_ends`, `node_here`); what a call gives where a check
 -- refuses it (`forward_refused`), and where it is written (`forward_done_lem`).
 -- Assumes nothing.
-use Rattle.std.specs.Prelude.{ℕ, ◌<◌, ◌≤◌, ◌+◌, ◌*◌, ◌-◌, ◌≡◌, true, false, List, eqb, ltb, leb, length, take, drop}
+use Rattle.std.specs.Prelude.{ℕ, ◌<◌, ◌≤◌, ◌+◌, ◌*◌, ◌-◌, ◌≡◌, true, List, eqb, leb, length, take, drop}
 use Rattle.std.proofs.Math.Path.{refl, ap}
 use Rattle.std.proofs.Common.{sym, ◌∙◌, arith, eqb-true, ltb-true, lt-ltb}
 use Rattle.laws.specs.Checks.{all_at}
@@ -28,7 +28,7 @@ use Rattle.requests.specs.declared.Answer.{Answer}
 use Rattle.requests.specs.declared.Request.{Request}
 use Rattle.requests.specs.declared.Told.{Told}
 use Rattle.step.specs.Lent.{Lent, told_done}
-use Rattle.step.specs.Change.{stepped_yes, stepped_no, refused}
+use Rattle.step.specs.Change.{stepped_yes, stepped_no}
 use Rattle.step.specs.Forward.{forward_in, forward_change, forward_done, forward_answer, forward_outcome}
 use Rattle.step.specs.Tested.{forward_answered}
 use Rattle.step.specs.Allowed.{allowed_by, forward_found, refused_found, at_found, in_range_key, slot_with_lem}
@@ -36,7 +36,6 @@ use Rattle.step.specs.Stepped.{Serves}
 use Rattle.step.proofs.Stepped.{change_refused, change_written}
 use Rattle.step.specs.InPlace.{change_bytes}
 use Rattle.step.specs.declared.forward.Allowed.{Allowed}
-use Rattle.step.specs.declared.forward.Allowed.TheVariants as Allowed
 
 -- ---- the node
 

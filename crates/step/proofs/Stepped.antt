@@ -3,7 +3,6 @@
 use Rattle.std.specs.Prelude.{ℕ, ◌≡◌, refl, true, false, List}
 use Rattle.std.proofs.Common.{sym, ◌∙◌}
 use Rattle.std.proofs.Math.Path.{ap, subst}
-use Rattle.laws.specs.Choice.{pick}
 use Rattle.laws.specs.Words.{Bytes}
 use Rattle.names.specs.declared.Localities.{Localities}
 use Rattle.images.specs.Net.{net_bytes}
@@ -13,7 +12,7 @@ use Rattle.images.specs.declared.Net.{Net}
 use Rattle.requests.specs.Requests.{is_done, refusal}
 use Rattle.requests.specs.declared.Answer.{Answer}
 use Rattle.requests.specs.declared.Told.{Told}
-use Rattle.step.specs.Lent.{Lent, Outcome, told, lent_after}
+use Rattle.step.specs.Lent.{Lent, lent_after}
 use Rattle.step.specs.Change.{Change, refused, applied, stepped_to}
 use Rattle.step.specs.InPlace.{change_bytes, change_bytes_lem}
 use Rattle.step.specs.Stepped.{Serves}

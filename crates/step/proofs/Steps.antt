@@ -2,50 +2,45 @@
 -- In order: the process and its node (`act`); what the checks say of the keys (`held_unmade`, `unmade`); what is made (`at_first`,
 -- `second_product`); its slots, by where the key is (`forward_slot`); its localities (`forward_present`); the step (`forward_is`).
 -- Assumes nothing.
-use Rattle.std.specs.Prelude.{ℕ, ◌<◌, ◌≡◌, Bool, ◌&&◌, ◌||◌, not, ltb, leb, length}
-use Rattle.std.proofs.Math.Path.{refl, ap, ap₂, sym, subst, fun_ext}
+use Rattle.std.specs.Prelude.{ℕ, ◌<◌, ◌≡◌, Bool, ◌||◌, leb, length}
+use Rattle.std.proofs.Math.Path.{refl, ap, ap₂, sym, subst}
 use Rattle.std.proofs.Common.{◌∙◌, ⊎_elim, arith}
 use Rattle.std.proofs.Math.Logic.{by_cases}
 use Rattle.std.proofs.Math.Bool.{true, false, true≢false, or-false}
 use Rattle.std.proofs.Math.Decide.{dec_lt}
 use Rattle.std.proofs.Math.Dec.{eqb}
-use borrow.Author.Tests.{eqb-true, eqb-false, eq-eqb, ne_eqb, ltb-true, lt-ltb}
-use Rattle.laws.specs.Choice.{pick, cases, clash, fails, and_left, and_right, and_both, or_left, or_right, or_cases}
-use Rattle.laws.specs.Sets.{member}
-use Rattle.names.specs.Names.{key_count, locality_count, node_count, none, key, locality, is_key, is_node, is_locality}
-use Rattle.names.specs.Localities.{joined}
+use borrow.Author.Tests.{eqb-true, eqb-false, eq-eqb, ne_eqb, lt-ltb}
+use Rattle.laws.specs.Choice.{pick, cases, clash, fails, and_right, or_left, or_cases}
+use Rattle.names.specs.Names.{key_count, node_count, is_key, is_node, is_locality}
 use Rattle.images.specs.Script.{action_at}
-use Rattle.images.specs.Net as I
 use Rattle.images.specs.Net.{slot_with}
 use Rattle.images.specs.Read.{node_with}
 use Rattle.images.specs.declared.Action.{Action}
 use Rattle.images.specs.declared.Script.{Script}
 use Rattle.images.specs.declared.Slot as Image
 use Rattle.images.specs.declared.Net as Images
-use Rattle.nets.specs.Rules as R
-use Rattle.nets.specs.Rules.{Act, uses, is_take, is_newloc, acts, Second, second_of, is_there}
-use Rattle.nets.specs.Net as N
-use Rattle.nets.specs.Net.{Kind, free, live, past, tuple, consumed, Slot, Net, free_slot, fresh, forget, is_free, is_live_tuple, made_key, took_tuple, made_locality}
-use Rattle.nets.specs.Rule.{met, product, besides, Places}
+use Rattle.nets.specs.Rules.{Act, is_take, is_newloc, acts, second_of, is_there}
+use Rattle.nets.specs.Net.{live, past, tuple, consumed, Slot, Net, fresh, is_free, is_live_tuple, made_key, took_tuple, made_locality}
+use Rattle.nets.specs.Rule.{met, product, besides}
 use Rattle.nets.specs.Forward as F
 use Rattle.nets.specs.Forward.{done, after, forward, Can}
 use Rattle.nets.specs.Records.{forget_body, made_below, made_cases, made_first, made_second}
-use Rattle.products.specs.Body.{Body, body_of, live_process, live_tuple}
+use Rattle.products.specs.Body.{Body, body_of, live_process}
 use Rattle.products.specs.Products
 use Rattle.products.specs.Products.{makes_second, meets_tuple, continued_by, second_slot, second_by}
-use Rattle.rules.specs.Instance.{act_of, makeable, rules_of}
+use Rattle.rules.specs.Instance.{act_of, rules_of}
 use Rattle.rules.specs.Acts
 use Rattle.rules.specs.Acts.{take_is, newloc_is, there_is, uses_is}
 use Rattle.rules.specs.Roots.{rolled_by}
 use Rattle.rules.specs.View.{view, slot_view, view_with, view_present, beyond, kind_as}
 use Rattle.requests.specs.Checks.{refusal}
-use Rattle.requests.specs.Answers.{Request, in_range, places, forward_checks}
+use Rattle.requests.specs.Answers.{in_range, places, forward_checks}
 use Rattle.requests.specs.Laws.{forward_can}
 use Rattle.requests.specs.Requests.{asked}
 use Rattle.requests.specs.declared.Request as Code
 use Rattle.step.specs.Change.{Change, applied}
 use Rattle.step.specs.Tested.{node_is, no_node}
-use Rattle.step.specs.Forward.{past_slot, forward_other, present_after, forward_done}
+use Rattle.step.specs.Forward.{forward_other, present_after, forward_done}
 use Rattle.step.specs.Written.{is_at, applied_present, joined_view, eqb_swap}
 use Rattle.step.proofs.Written.{applied_slot}
 

@@ -4,19 +4,18 @@
 -- it touched (`undo_touched`).
 -- Assumes nothing.
 use Prim.Native.Nat.{ℕ, ◌<◌, ◌^◌}
-use Rattle.std.specs.Prelude.{◌≡◌, ◌⊎◌, Bool, ◌&&◌, ◌||◌, ltb, leb, length}
+use Rattle.std.specs.Prelude.{◌≡◌, Bool, ◌&&◌, ◌||◌, ltb, leb, length}
 use Rattle.std.proofs.Math.Path.{refl, ap, ap₂, sym, subst}
-use Rattle.std.proofs.Common.{◌∙◌, inl, inr, arith, pow_pos}
-use Rattle.std.proofs.Math.Logic.{⊎_elim, by_cases}
+use Rattle.std.proofs.Common.{◌∙◌, arith, pow_pos}
+use Rattle.std.proofs.Math.Logic.{⊎_elim}
 use Rattle.std.proofs.Math.Bool.{true, false, not, true≢false, and-true, and-false}
-use Rattle.std.proofs.Math.Decide.{dec_lt}
 use Rattle.std.proofs.Math.Dec.{eqb}
-use borrow.Author.Tests.{eqb-true, eqb-false, eq-eqb, ne_eqb, ltb-true, ltb-false, lt-ltb}
+use borrow.Author.Tests.{eqb-true, eq-eqb, ne_eqb, ltb-true, lt-ltb}
 use Rattle.laws.specs.Choice.{pick, cases, clash, fails, agree, and_left, and_right, and_both, or_left, or_right, or_cases}
 use Rattle.laws.specs.Sets.{member, member_empty, including_lt}
-use Rattle.order.specs.KeySets.{◌∈◌, only, any, any_of, any_some, any_only, any_ext}
+use Rattle.order.specs.KeySets.{only, any, any_of, any_some, any_only, any_ext}
 use Rattle.order.specs.Words.{word_of, word_of_is, word_including}
-use Rattle.names.specs.Names.{key_count, locality_count, node_count, none, key, is_key, is_node, is_locality}
+use Rattle.names.specs.Names.{key_count, locality_count, is_key, is_node, is_locality}
 use Rattle.names.specs.Localities.{localities}
 use Rattle.names.specs.declared.Key.{Key}
 use Rattle.names.specs.declared.Localities.{Localities}
@@ -29,9 +28,9 @@ use Rattle.images.specs.declared.Action.{Action}
 use Rattle.images.specs.declared.Script.{Script}
 use Rattle.images.specs.declared.Slot as Image
 use Rattle.images.specs.declared.Net as Images
-use Rattle.nets.specs.Rules.{Act, uses, is_take, is_newloc, acts, second_of, is_there, take_uses}
-use Rattle.nets.specs.Net.{Kind, free, live, past, tuple, consumed, Slot, Net, free_slot, fresh, forget, is_past, is_free, is_live_tuple, is_consumed, made_key, took_tuple, made_locality, makes, takes, makes_locality}
-use Rattle.nets.specs.Rule.{met, Places}
+use Rattle.nets.specs.Rules.{Act, is_take, is_newloc, acts, second_of, is_there, take_uses}
+use Rattle.nets.specs.Net.{Kind, live, tuple, consumed, Slot, Net, free_slot, fresh, forget, is_consumed, made_locality, makes, takes}
+use Rattle.nets.specs.Rule.{Places}
 use Rattle.nets.specs.Accepted.{Formed, Accepted}
 use Rattle.nets.specs.Undo.{made_by, undo, touched, Undoable}
 use Rattle.nets.proofs.Demands.{touched_is}
@@ -39,7 +38,7 @@ use Rattle.nets.specs.Records.{past_kind, forget_past, forget_consumed, made_bel
 use Rattle.nets.proofs.Events as E
 use Rattle.nets.proofs.Events.{take_consumed}
 use Rattle.nets.proofs.Backward as B
-use Rattle.products.specs.Body.{Body, body_of, live_process, live_tuple}
+use Rattle.products.specs.Body.{Body, body_of}
 use Rattle.products.specs.Products
 use Rattle.rules.specs.Instance.{act_of, makeable, rules_of, lawful_of}
 use Rattle.rules.specs.Acts
@@ -47,7 +46,7 @@ use Rattle.rules.specs.Acts.{take_is, newloc_is, there_is}
 use Rattle.rules.specs.View.{view, slot_view, view_with, view_present, free_view, kind_as}
 use Rattle.step.specs.Change.{Change, applied}
 use Rattle.step.specs.Tested.{node_is, no_node}
-use Rattle.step.specs.Backward.{back_put, backward_other, present_before, freed_at, backward_done, undone_at}
+use Rattle.step.specs.Backward.{back_put, present_before, freed_at, backward_done, undone_at}
 use Rattle.step.specs.Written.{is_at, applied_present, parted_view, eqb_swap}
 use Rattle.step.proofs.Written.{applied_slot}
 

@@ -1,26 +1,15 @@
 -- A change written into a net, seen as a net of the theory: its slots (`applied_slot`).
 -- Assumes nothing.
-use Rattle.std.specs.Prelude.{ℕ, ◌<◌, ◌≡◌, Bool, ◌&&◌, ◌||◌, not, eqb, set}
-use Rattle.std.proofs.Math.Path.{refl, ap, subst}
-use Rattle.std.proofs.Common.{sym, ◌∙◌, length-set, get_or-set_other, eqb-true, eq-eqb, ne_eqb, ltb-true}
-use Rattle.std.proofs.Math.Bool.{true, or-true, or-false}
-use Rattle.std.proofs.Math.Dec.{ltb}
-use Rattle.std.proofs.Math.ListN.{length, get_or}
-use Rattle.std.proofs.Math.Seq.{get_or-set_same}
-use Rattle.std.proofs.lemmas.Bool.{eqb-false}
-use Rattle.laws.specs.Choice.{pick, cases}
-use Rattle.laws.specs.Sets.{member}
-use Rattle.order.specs.Words.{word_including, word_excluding}
-use Rattle.names.specs.Names.{key_count, locality_count, is_key, is_locality}
-use Rattle.names.specs.Localities.{joined, parted}
-use Rattle.names.specs.declared.Locality.{Locality}
-use Rattle.names.specs.declared.Localities.{Localities}
-use Rattle.images.specs.Net as I
+use Rattle.std.specs.Prelude.{ℕ, ◌≡◌}
+use Rattle.std.proofs.Math.Path.{refl, ap}
+use Rattle.std.proofs.Common.{◌∙◌}
+use Rattle.std.proofs.Math.ListN.{length}
+use Rattle.laws.specs.Choice.{pick}
+use Rattle.names.specs.Names.{key_count}
 use Rattle.images.specs.declared.Script.{Script}
 use Rattle.images.specs.declared.Net as Images
-use Rattle.nets.specs.Net as N
 use Rattle.rules.specs.View.{view, slot_view}
-use Rattle.step.specs.Change.{Put, Change, put_in, applied}
+use Rattle.step.specs.Change.{Change, put_in, applied}
 use Rattle.step.specs.Written.{is_at, put_length, put_view}
 
 module _ (s : Script) where

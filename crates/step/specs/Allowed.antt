@@ -3,29 +3,27 @@
 -- the tests (`refused_by`, `allowed_at`), and back (`at_found`, `refused_found`); what a step that none refuses found (`Found`, `found`): the slots that it changes
 -- are three (`apart_first`, `apart_used`, `apart_taken`).
 -- Assumes nothing.
-use Rattle.std.specs.Prelude.{ℕ, ◌<◌, ◌≡◌, refl, Bool, ◌&&◌, not, List, eqb, ltb, leb}
+use Rattle.std.specs.Prelude.{ℕ, ◌<◌, ◌≡◌, refl, Bool, List, eqb, ltb, leb}
 use Rattle.std.proofs.Math.Path.{ap, sym}
 use Rattle.std.proofs.Common.{◌∙◌, subst, true≢false, arith}
 use Rattle.std.proofs.Math.Bool.{true, false}
-use borrow.Author.Tests.{eqb-true, eqb-false, eq-eqb, lt-ltb, ltb-true, not-true}
-use Rattle.laws.specs.Choice.{pick, cases, clash, and_left, and_right, ◌⇒◌, told}
+use borrow.Author.Tests.{eqb-true, lt-ltb, ltb-true, not-true}
+use Rattle.laws.specs.Choice.{pick, cases, and_left, and_right, told}
 use Rattle.names.specs.Names.{key_count, none, is_key, below_or_none}
 use Rattle.names.specs.declared.Key.{Key}
 use Rattle.names.specs.declared.Locality.{Locality}
 use Rattle.images.specs.Net.{slot_at, slot_with, is_free}
 use Rattle.images.specs.declared.Action.{Action}
-use Rattle.images.specs.declared.Slot.{Slot}
 use Rattle.images.specs.declared.Net.{Net}
-use Rattle.products.specs.Products.{meets_tuple, makes_second}
+use Rattle.products.specs.Products.{meets_tuple}
 use Rattle.products.specs.Acting.{acts_at}
 use Rattle.requests.specs.Checks.{Check, refusal, all_hold}
 use Rattle.requests.specs.Answers.{in_range, as_needed}
 use Rattle.requests.specs.Requests.{asked, is_done, answer_of, done_zero}
 use Rattle.requests.specs.declared.Request.{Request}
 use Rattle.requests.specs.declared.Answer.{Answer}
-use Rattle.step.specs.Tests.{places_by, tuple_there, names_fresh, second_fresh, forward_tests}
+use Rattle.step.specs.Tests.{places_by, tuple_there, names_fresh, forward_tests}
 use Rattle.step.specs.declared.forward.Allowed.{Allowed}
-use Rattle.step.specs.declared.forward.Allowed.TheVariants as Allowed
 
 -- the tests of the process at the node a, with what stands at the keys of the request
 unfoldable pub forward_found : Action → Net → Request → List Check

@@ -25,7 +25,6 @@ use Rattle.requests.specs.Answers.{backward_checks}
 use Rattle.requests.specs.Requests.{asked, answer_of}
 use Rattle.requests.specs.declared.Request.{Request}
 use Rattle.requests.specs.declared.Answer.{Answer}
-use Rattle.requests.specs.declared.Answer.TheVariants as Answer
 use Rattle.step.specs.Lent.{Outcome}
 use Rattle.step.specs.Change.{Put, Change, put, nowhere, stepped, stepped_to}
 

@@ -5,7 +5,7 @@
 -- Assumes nothing.
 use Rattle.std.specs.Prelude.{ℕ, ◌&&◌}
 use Rattle.laws.specs.Choice.{pick}
-use Rattle.names.specs.Names.{locality, is_locality}
+use Rattle.names.specs.Names.{is_locality}
 use Rattle.names.specs.Localities.{localities, joined}
 use Rattle.names.specs.declared.Locality.{Locality}
 use Rattle.names.specs.declared.Localities.{Localities}
@@ -24,7 +24,6 @@ use Rattle.requests.specs.Answers.{forward_checks}
 use Rattle.requests.specs.Requests.{asked, answer_of}
 use Rattle.requests.specs.declared.Request.{Request}
 use Rattle.requests.specs.declared.Answer.{Answer}
-use Rattle.requests.specs.declared.Answer.TheVariants as Answer
 use Rattle.step.specs.Lent.{Outcome}
 use Rattle.step.specs.Change.{Put, Change, put, nowhere, stepped, stepped_to}
 

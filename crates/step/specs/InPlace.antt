@@ -2,22 +2,17 @@
 -- In order: the bytes after a change (`change_bytes`); of a net's bytes (`put_bytes_lem`, `change_bytes_lem`); they stay as many (`slot_kept`,
 -- `present_kept`).
 -- Assumes nothing.
-use Rattle.std.specs.Prelude.{ℕ, ◌≡◌, refl, Bool, true, false, List, length}
+use Rattle.std.specs.Prelude.{ℕ, ◌≡◌, refl, List, length}
 use Rattle.std.proofs.Common.{ap, ◌∙◌}
-use Rattle.laws.specs.Choice.{pick, cases}
+use Rattle.laws.specs.Choice.{cases}
 use Rattle.names.specs.Names.{key_count, is_key}
-use Rattle.names.specs.Localities.{localities}
 use Rattle.names.specs.declared.Key.{Key}
 use Rattle.names.specs.declared.Localities.{Localities}
-use Rattle.images.specs.Net.{free_slot, net_bytes}
+use Rattle.images.specs.Net.{net_bytes}
 use Rattle.images.specs.InPlace.{slot_put, present_put, length_slot_put, length_present_put, slot_put_net, present_put_net}
-use Rattle.images.specs.declared.Action.{Action}
 use Rattle.images.specs.declared.Slot.{Slot}
 use Rattle.images.specs.declared.Net.{Net}
-use Rattle.products.specs.Body.{body_of, live_process}
-use Rattle.products.specs.Products.{continued_by}
-use Rattle.requests.specs.declared.Request.{Request}
-use Rattle.step.specs.Change.{Put, Change, nowhere, put_in, applied}
+use Rattle.step.specs.Change.{Put, Change, put_in, applied}
 use Rattle.step.specs.Written.{put_length}
 
 -- ---- a change

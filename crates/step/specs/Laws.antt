@@ -3,38 +3,27 @@
 -- undoing of its event (`Undoes`). That these are so of what the code changes (`forward_gives`, `undo_promised`) is in proofs/Laws.
 -- Document 01's row of each refusal is in `requests` (`Checks`, `refused_iff`).
 -- Assumes nothing.
-use Rattle.std.specs.Prelude.{ℕ, zero, suc, ◌<◌, ◌≡◌, ◌↔◌, Bool, true, false, ◌&&◌, eqb, length}
+use Rattle.std.specs.Prelude.{ℕ, ◌≡◌, ◌↔◌, true, false, length}
 use Rattle.std.proofs.Math.Path.{refl, ap}
-use Rattle.std.proofs.Common.{sym, ◌∙◌, arith, eqb-true, ne_eqb}
-use Rattle.laws.specs.Choice.{cases}
-use Rattle.order.specs.KeySets.{◌∈◌}
 use Rattle.order.specs.Words.{word_of}
 use Rattle.names.specs.Names.{key_count, locality_count}
-use Rattle.names.specs.Localities.{localities}
 use Rattle.names.specs.declared.Key.{Key}
-use Rattle.names.specs.declared.Localities.{Localities}
-use Rattle.images.specs.Script.{script_in_range}
 use Rattle.images.specs.Shape.{ShapedScript}
-use Rattle.images.specs.Net.{slot_with}
 use Rattle.images.specs.declared.Script.{Script}
 use Rattle.images.specs.declared.Net as Images
-use Rattle.nets.specs.Net.{events}
-use Rattle.nets.specs.Accepted.{Accepted}
-use Rattle.nets.specs.Forward.{forward, Can}
+use Rattle.nets.specs.Forward.{Can}
 use Rattle.nets.specs.Undo.{undo, touched, Undoable}
 use Rattle.rules.specs.Roots.{rolled_by}
 use Rattle.rules.specs.View.{view}
-use Rattle.requests.specs.Checks.{refusal, all_hold, none_fails}
-use Rattle.requests.specs.Answers.{in_range, places, no_places, can_undo, forward_checks, backward_checks}
-use Rattle.requests.specs.Laws.{forward_can, can_forward, undo_can, can_undo_lem}
+use Rattle.requests.specs.Checks.{refusal}
+use Rattle.requests.specs.Answers.{in_range, places, forward_checks}
+use Rattle.requests.specs.Laws.{forward_can, can_forward}
 pub use Rattle.requests.specs.Requests.{done_number, done_zero}
 use Rattle.requests.specs.Requests.{asked, is_done, answer_of}
 use Rattle.requests.specs.declared.Request.{Request}
 use Rattle.requests.specs.declared.Answer.{Answer}
-use Rattle.requests.specs.declared.Answer.TheVariants as Answer
 use Rattle.step.specs.Change.{Change, refused, stepped, put_in, applied}
-use Rattle.step.specs.Forward.{forward_answer, forward_done, forward_change}
-use Rattle.step.specs.Backward.{backward_answer, backward_done, undone_at, backward_change}
+use Rattle.step.specs.Forward.{forward_answer, forward_change}
 pub use Rattle.step.specs.Backward.{undoing}
 
 -- ---- a refusal

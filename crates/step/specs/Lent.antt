@@ -21,7 +21,6 @@ use Rattle.rules.specs.View.{view}
 use Rattle.requests.specs.Requests.{is_done}
 use Rattle.requests.specs.Requests as Requests
 use Rattle.requests.specs.declared.Answer.{Answer}
-use Rattle.requests.specs.declared.Answer.TheVariants as Answer
 use Rattle.requests.specs.declared.Told.{Told}
 
 -- both images have their form, and the net is accepted

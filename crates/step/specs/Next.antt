@@ -3,16 +3,15 @@
 -- the second thing made (`tuple_of`, `second_put`), the tuple that is taken (`taken_put`); the continuation is the rule's (`next_is`); the third slot is the change's (`other_is`); all
 -- of it (`forward_written`).
 -- Assumes nothing.
-use Rattle.std.specs.Prelude.{ℕ, ◌<◌, ◌≡◌, Bool, true, ◌||◌, eqb, ltb, length, replicate, set}
+use Rattle.std.specs.Prelude.{ℕ, ◌≡◌, Bool, true, ltb, length, replicate, set}
 use Rattle.std.proofs.Math.Path.{refl, ap}
-use Rattle.std.proofs.Common.{ap₂, sym, ◌∙◌, subst, arith, length-set, eqb-true, eq-eqb, ne_eqb, lt-ltb, ltb-true}
+use Rattle.std.proofs.Common.{sym, ◌∙◌, subst, eqb-true, lt-ltb, ltb-true}
 use Rattle.std.proofs.Math.Bool.{false}
 use mathlib.Core.List.{List}
-use Rattle.laws.specs.Choice.{pick, cases, clash, fails, or_left, or_right}
+use Rattle.laws.specs.Choice.{pick, cases, clash, fails, or_left}
 use Rattle.laws.specs.Lists.{tab}
 use Rattle.laws.specs.Words.{Bytes}
-use Rattle.names.specs.Names.{key_count, reference_count, variable_count, none, key, locality, node, variable, is_key}
-use Rattle.names.specs.declared.Key.{Key}
+use Rattle.names.specs.Names.{key_count, reference_count, variable_count, none, key, node, variable}
 use Rattle.names.specs.declared.Locality.{Locality}
 use Rattle.names.specs.declared.Localities.{Localities}
 use Rattle.images.specs.Script.{field_at}
@@ -27,11 +26,9 @@ use Rattle.images.specs.After.{slot_other, present_other, slot_there, contents_t
 use Rattle.images.specs.declared.Action.{Action}
 use Rattle.images.specs.declared.Datum.{Datum}
 use Rattle.images.specs.declared.Slot.{Slot}
-use Rattle.images.specs.declared.Net.{Net}
-use Rattle.matching.specs.Match.{bound}
 use Rattle.matching.specs.Bound.{bound_put, bound_put_lem}
-use Rattle.products.specs.Body.{Body, body_of, fresh, live_process, live_tuple}
-use Rattle.products.specs.Products.{is_out, is_in, is_read, is_newloc, meets_tuple, makes_second, made_datum, field_made, variables_after, references_after, continued_by, second_slot}
+use Rattle.products.specs.Body.{body_of, fresh, live_process, live_tuple}
+use Rattle.products.specs.Products.{is_out, is_in, is_newloc, meets_tuple, makes_second, made_datum, field_made, variables_after, references_after, continued_by}
 use Rattle.products.specs.Acting.{acts_at, tuple_at, process_at, second_at, second_acts}
 use Rattle.requests.specs.Answers.{in_range}
 use Rattle.requests.specs.Requests.{asked}

@@ -8,7 +8,7 @@ use Rattle.std.proofs.Common.{◌∙◌, arith, ltb-false}
 use Rattle.std.proofs.Math.ListN.{get_or-eq_default}
 use Rattle.laws.specs.Choice.{cases, ◌⇒◌, and_right, or_left, or_right}
 use Rattle.laws.specs.Sets.{member}
-use Rattle.names.specs.Names.{node_count, locality_count, none, locality, is_node}
+use Rattle.names.specs.Names.{node_count, locality_count, locality, is_node}
 use Rattle.names.specs.declared.Node.{Node}
 use Rattle.names.specs.declared.Locality.{Locality}
 use Rattle.images.specs.Script.{action0, action_at}
@@ -34,7 +34,6 @@ use Rattle.requests.specs.Answers as A
 use Rattle.requests.specs.Answers.{places_of, forward_checks}
 use Rattle.requests.specs.Requests.{asked, answer_of}
 use Rattle.requests.specs.declared.Request.{Request}
-use Rattle.requests.specs.declared.Answer.{Answer}
 use Rattle.step.specs.Tests.{places_by, tuple_there, template_met, second_fresh, place_fresh, names_fresh, forward_tests}
 use Rattle.step.specs.Forward.{forward_answer}
 

@@ -3,7 +3,7 @@
 -- In order: `checked`; each test of a forward step, and these in their order (`forward_tests`); what an answer of a check says (`holds_true`,
 -- `fails_false`); the part that is lent for a tuple (`slot_match`).
 -- Assumes nothing.
-use Rattle.std.specs.Prelude.{ℕ, ◌+◌, ◌-◌, ◌*◌, Bool, true, false, ◌&&◌, ◌||◌, not, ◌≡◌, refl, List, [], ◌∷◌, eqb, take, drop}
+use Rattle.std.specs.Prelude.{ℕ, ◌+◌, ◌-◌, ◌*◌, Bool, true, false, ◌&&◌, not, ◌≡◌, refl, List, [], ◌∷◌, eqb, take, drop}
 use Rattle.std.proofs.Common.{ap, sym, ◌∙◌, arith}
 use Rattle.laws.specs.Choice.{pick, ◌⇒◌}
 use Rattle.names.specs.Localities.{holds}
@@ -26,7 +26,6 @@ use Rattle.requests.specs.Checks.{check}
 use Rattle.requests.specs.Answers.{as_needed}
 use Rattle.requests.specs.declared.Request.{Request}
 use Rattle.step.specs.declared.Check.{Check}
-use Rattle.step.specs.declared.Check.TheVariants as Check
 
 unfoldable pub checked : Bool → Check
 checked b = pick b Check.Holds Check.Fails

@@ -39,7 +39,6 @@ use Rattle.rules.specs.Instance.{rules_of}
 use Rattle.rules.specs.Acts as Acts
 use Rattle.rules.specs.View.{view, slot_view, view_slot, view_with, live_is, past_is, consumed_is}
 use Rattle.step.specs.declared.backward.Way.{Way}
-use Rattle.step.specs.declared.backward.Way.TheVariants as Way
 
 -- ---- what the code looks for
 

@@ -21,7 +21,6 @@ use Rattle.names.specs.declared.Localities.{Localities}
 use Rattle.images.specs.Net as I
 use Rattle.images.specs.declared.Script.{Script}
 use Rattle.images.specs.declared.Net as Images
-use Rattle.nets.specs.Net as N
 use Rattle.rules.specs.View.{view, slot_view}
 use Rattle.step.specs.Change.{Put, Change, put_in, applied}
 

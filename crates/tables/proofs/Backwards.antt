@@ -5,7 +5,7 @@
 -- Acceptance is needed, as 004 takes its nets to be well formed: that a memory has the places of its kind, that what it made stands there as the rule makes
 -- it, that only tuples are read, that the tuple of an in is consumed, that a made locality is left alone.
 -- Assumes nothing.
-use Rattle.std.specs.Prelude.{◌≡◌, refl, ◌↔◌, true, false, ℕ}
+use Rattle.std.specs.Prelude.{◌≡◌, refl, ◌↔◌, true, ℕ}
 use Rattle.std.proofs.Common.{sym, ap, ◌∙◌, inl, inr, arith}
 use Rattle.std.proofs.lemmas.Bool.{false≢true}
 use Rattle.names.specs.Names.{none}

@@ -19,7 +19,7 @@ use Rattle.images.specs.declared.Script.{Script}
 use Rattle.nets.specs.Rules.{number}
 use Rattle.nets.specs.Rules
 use Rattle.products.specs.Body.{Body}
-use Rattle.products.specs.Products.{is_out, is_in, is_read, is_newloc, is_eval, is_split, action, kind_of, is_ready, variables_after, references_after, continuation, tuple_made, process_made, second_made, continued_by, process_by, ready_by, second_by}
+use Rattle.products.specs.Products.{is_out, is_in, is_read, is_newloc, is_eval, is_split, action, kind_of, is_ready, variables_after, references_after, continuation, tuple_made, second_made, continued_by, process_by, ready_by, second_by}
 use Rattle.rules.specs.Nodes.{node_cases, split_reference}
 use Rattle.rules.specs.Instance.{act_of}
 use Rattle.tables.specs.Table.{following, matched, binding, spawned, left, right}

@@ -1,9 +1,6 @@
 use mathlib.Core.Path.{◌≡◌, sym}
-use mathlib.Core.Bool.{true}
-use Prim.Native.Nat.{◌-◌}
 use native.Mathlib.Omega.{arith}
 use borrow.Author.Count.{below_none, below_more}
-use borrow.Author.Tests.{not-true, not-false}
 use Rattle.laws.specs.Checks.{all_of, all_not}
 use Rattle.names.specs.Names.{key_count}
 use Rattle.agreement.specs.Looked.{no_event, event_told}

@@ -1,5 +1,4 @@
 use mathlib.Core.Path.{◌∙◌, sym}
-use borrow.Author.Tests.{not-true, not-false}
 use Rattle.images.specs.Read.{net_of}
 use Rattle.agreement.specs.Looked.{no_step, misplaced, no_target, none_met, tuple_tells}
 use Rattle.agreement.proofs.rule_applies.Goals as goal

@@ -1,5 +1,5 @@
 use mathlib.Core.Path.{◌∙◌, sym}
-use borrow.Author.Tests.{eq-eqb, ne_eqb, not-true, not-false}
+use borrow.Author.Tests.{eq-eqb, ne_eqb}
 use Rattle.agreement.specs.Looked.{second_stands_at}
 use Rattle.agreement.proofs.second_stands.Goals as goal
 

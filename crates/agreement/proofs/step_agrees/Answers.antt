@@ -1,5 +1,4 @@
 use mathlib.Core.Path.{◌∙◌, sym}
-use borrow.Author.Tests.{not-true, not-false}
 use Rattle.images.specs.Read.{net_of}
 use Rattle.agreement.proofs.Looked.{unready, rule_fails, first_fails, second_tells}
 use Rattle.agreement.proofs.step_agrees.Goals as goal

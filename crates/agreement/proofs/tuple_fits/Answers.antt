@@ -1,6 +1,5 @@
 use mathlib.Core.Path.{◌∙◌, sym}
 use native.Mathlib.Omega.{arith}
-use borrow.Author.Tests.{not-true, not-false}
 use Rattle.images.specs.Read.{net_of}
 use Rattle.agreement.specs.Looked.{key_below, no_key, no_tuple, elsewhere, differs, matches}
 use Rattle.agreement.proofs.tuple_fits.Goals as goal

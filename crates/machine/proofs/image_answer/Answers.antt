@@ -1,6 +1,5 @@
 use mathlib.Core.Path.{sym, ◌∙◌}
 use mathlib.Core.Bool.{true, false}
-use borrow.Author.Tests.{not-true, not-false}
 use Rattle.images.specs.Round.{shaped_net}
 use Rattle.images.specs.Sizes.{script_sized, net_sized}
 use Rattle.machine.specs.Called.{image_no_script, image_no_net, image_by}

@@ -1,10 +1,7 @@
-use mathlib.Core.Path.{refl, sym, ap, ◌∙◌}
-use lib.ListN.{length}
-use Prim.Native.Nat.{◌-◌}
+use mathlib.Core.Path.{refl}
 use native.Mathlib.Omega.{arith}
 use Rattle.images.specs.Read.{script_of, net_of}
 use Rattle.images.specs.Round.{net_back, shaped_script, shaped_net}
-use Rattle.images.specs.Layout.{length_net}
 use Rattle.images.specs.Sizes.{net_sized}
 use Rattle.rollback.specs.InPlace.{walk_first, walk_form, walk_good, walk_on, walk_less, walk_undoable, walk_few, walk_next, walk_anew, walk_done}
 use Rattle.rollback.proofs.undo_dependents.Goals as goal

@@ -22,7 +22,7 @@ write_around-requires c =
     let there = slot_lent c.args.d.now c.args.k (sym c.is_key.ensures ∙ c.if-not-is_key.false) in
     record {
       slot_sized = search rules;
-      contents_value = (c.requires.contents_value.0 ∙ ap (λ (x : Slot). x.contents) there, c.requires.contents_value.1 ∙ ap (λ (x : Slot). x.refs) there);
+      kept = (c.requires.kept.0 ∙ ap (λ (x : Slot). x.contents) there, c.requires.kept.1 ∙ ap (λ (x : Slot). x.refs) there);
     }
 
 pub returns : goal.returns

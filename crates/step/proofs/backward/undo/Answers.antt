@@ -14,7 +14,7 @@ freed_at-touched-requires c = undo_sized c.args.script.now c.args.net.now c.requ
 pub put_keeping-requires : goal.put_keeping-requires
 put_keeping-requires c =
     let h = undo_keeps c.args.script.now c.args.net.now c.requires.0 c.args.k c.requires.1 _ c.slot_at-x.ensures _ c.as_new-live.ensures in
-    record { sized = h.0; contents_value = h.1 }
+    record { sized = h.0; kept = h.1 }
 
 pub put_slot-requires : goal.put_slot-requires
 put_slot-requires c = slot_kept _ _ _ _ c.put_keeping.ensures (undo_sized c.args.script.now c.args.net.now c.requires.0 c.args.k c.requires.1)

@@ -5,7 +5,7 @@ use Rattle.step.specs.Forward.{past_slot}
 use Rattle.step.proofs.forward.put_event.Goals as goal
 
 pub put_keeping-requires : goal.put_keeping-requires
-put_keeping-requires c = record { sized = c.requires; contents_value = (ap (λ (z : Slot). z.contents) c.past_slot-event.ensures ∙ ap (λ (z : Slot). z.contents) c.slot_in-x.ensures, ap (λ (z : Slot). z.refs) c.past_slot-event.ensures ∙ ap (λ (z : Slot). z.refs) c.slot_in-x.ensures) }
+put_keeping-requires c = record { sized = c.requires; kept = (ap (λ (z : Slot). z.contents) c.past_slot-event.ensures ∙ ap (λ (z : Slot). z.contents) c.slot_in-x.ensures, ap (λ (z : Slot). z.refs) c.past_slot-event.ensures ∙ ap (λ (z : Slot). z.refs) c.slot_in-x.ensures) }
 
 pub returns : goal.returns
 returns c =

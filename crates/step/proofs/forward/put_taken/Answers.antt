@@ -13,7 +13,7 @@ unfolding taken_put
 returns-then-a-ne-IN c = rw (sym (ap (λ (z : Action). is_in z.kind) c.action_of-a.ensures) ∙ ne_eqb _ 2 c.if-a-ne-IN.true) (sym (puts_nothing c.args.net.now))
 
 pub put_keeping-requires : goal.put_keeping-requires
-put_keeping-requires c = record { sized = c.requires.1; contents_value = (ap (λ (z : Slot). z.contents) c.as_new-consumed.ensures ∙ ap (λ (z : Slot). z.contents) c.slot_in-t.ensures, ap (λ (z : Slot). z.refs) c.as_new-consumed.ensures ∙ ap (λ (z : Slot). z.refs) c.slot_in-t.ensures) }
+put_keeping-requires c = record { sized = c.requires.1; kept = (ap (λ (z : Slot). z.contents) c.as_new-consumed.ensures ∙ ap (λ (z : Slot). z.contents) c.slot_in-t.ensures, ap (λ (z : Slot). z.refs) c.as_new-consumed.ensures ∙ ap (λ (z : Slot). z.refs) c.slot_in-t.ensures) }
 
 pub returns : goal.returns
 unfolding taken_put
