@@ -2,9 +2,9 @@
  * Document 01's printed example by calls: script T, net A, four requests, a
  * line each. From the top of the repository:
  *
- *   rt staticlib exports
+ *   (cd crates/exports && rt lib)
  *   cc -std=c99 -Wall -Wextra -pedantic -Iinclude include/printed_example.c \
- *      target/staticlib/libexports.a -o printed_example
+ *      crates/exports/out/libexports.a -o printed_example
  */
 #include "rewind.h"
 

@@ -1,8 +1,8 @@
 /*
  * The calls of rewind for C, and for any language that calls C.
  *
- * Link target/staticlib/libexports.a (`rt staticlib exports` builds it, for
- * x86-64 Linux). It asks for memcpy and memset and for nothing else.
+ * Link crates/exports/out/libexports.a (`rt lib` in crates/exports builds it,
+ * for x86-64 Linux). It asks for memcpy and memset and for nothing else.
  *
  * Script, net and request are byte strings, each given as a pointer and a
  * length. Any bytes and any length are taken, and each has one outcome, which
