@@ -74,13 +74,13 @@ impl Action {
     pub const KINDS: u8 = 8;
 }
 
-#[derive(Drop)]
+#[derive(Clone, Copy)]
 pub struct Script {
     pub nodes: [Action; Node::COUNT],
 }
 
 // What reading a script answers; beside a refusal stands a script of nil nodes.
-#[derive(Drop)]
+#[derive(Clone, Copy)]
 pub struct ScriptRead {
     pub form: Form,
     pub script: Script,
@@ -159,14 +159,14 @@ impl Slot {
     pub const CONSUMED: u8 = 4;
 }
 
-#[derive(Drop)]
+#[derive(Clone, Copy)]
 pub struct Net {
     pub present: Localities,
     pub slots: [Slot; Key::COUNT],
 }
 
 // What reading a net answers; beside a refusal stands the empty net.
-#[derive(Drop)]
+#[derive(Clone, Copy)]
 pub struct NetRead {
     pub form: Form,
     pub net: Net,
