@@ -135,7 +135,8 @@ module _ (n : ℕ) (U : Undoing n) where
 
   -- ---- a set of events, undone in any order
 
-  over : (a : Net) → Accepted a → Over n (depends a)
+  -- what depends on one another in an accepted net are its keys
+  pub over : (a : Net) → Accepted a → Over n (depends a)
   over a ok = among_over (U.among a ok)
 
   module _ (a : Net) (ok : Accepted a) (D : Set) (closed : Closed (depends a) D) where

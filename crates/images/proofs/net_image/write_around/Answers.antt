@@ -1,3 +1,4 @@
+use Rattle.std.proofs.Common.{rules}
 use mathlib.Core.Path.{refl, ◌∙◌}
 use Rattle.laws.specs.Parts.{put_around}
 use Rattle.images.specs.Round.{slot_keeping}
@@ -6,4 +7,4 @@ use Rattle.images.proofs.net_image.write_around.Goals as goal
 pub returns : goal.returns
 returns c =
     put_around 8 44 4 c.args.p.now _ _ _ _ c.requires.slot_sized c.write_first.ensures c.write_four.ensures refl ∙
-    slot_keeping c.args.p.now (λ i. (c.slice_known-1.given i).fits) c.requires.slot_sized c.args.s c.requires.kept.0 c.requires.kept.1
+    slot_keeping c.args.p.now (λ i. search rules) c.requires.slot_sized c.args.s c.requires.kept.0 c.requires.kept.1
