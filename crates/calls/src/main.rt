@@ -3,12 +3,11 @@
 // absent locality. Each of the last four prints a line.
 #![tactic(auto)]
 
-ghost use Rattle.std.specs.Io.{ReadsAtMost};
-
 use machine::asks::{find, free_key, free_locality};
 use machine::call;
 use requests::{Answer, Told, number};
 use std::io::{self, Read};
+use streams::read_full;
 
 // Room for a script or a net.
 const ROOM: usize = 4096;
@@ -68,21 +67,6 @@ fn print_found(rt: &impl Print, what: char, answer: Answer, name: u8) -> io::Res
 }
 
 // ---- input
-
-// Reads until the room is full or the input ends; how many bytes it put at the front.
-fn read_full(input: &mut impl Read, room: &mut [u8]) -> io::Result<usize>
-    ensures { ReadsAtMost result room.new }
-{
-    let mut done = 0;
-    while done < room.len() {
-        let n = input.read(&mut room[done..])?;
-        if n == 0 {
-            break;
-        }
-        done += n;
-    }
-    Ok(done)
-}
 
 // ---- questions
 

@@ -3,12 +3,11 @@
 // Each case prints a line: the case, and whether what it makes has the form. A net that has it must be written as it was read.
 #![tactic(auto)]
 
-ghost use Rattle.std.specs.Io.{ReadsAtMost};
-
 use images::Form;
 use images::net_image::{read_net, write_net};
 use images::script_image::read_script;
 use std::io::{self, Read};
+use streams::read_full;
 
 const SCRIPT: usize = 2064;
 
@@ -87,21 +86,6 @@ fn print_case(rt: &impl Print, what: u8, at: usize, value: u8, good: bool) -> io
     } else {
         println!(rt; " {at} {value} no form")
     }
-}
-
-// Reads until the room is full or the input ends; how many bytes it put at the front.
-fn read_full(input: &mut impl Read, room: &mut [u8]) -> io::Result<usize>
-    ensures { ReadsAtMost result room.new }
-{
-    let mut done = 0;
-    while done < room.len() {
-        let n = input.read(&mut room[done..])?;
-        if n == 0 {
-            break;
-        }
-        done += n;
-    }
-    Ok(done)
 }
 
 // The image at the front of the bytes; those after it stay 0.

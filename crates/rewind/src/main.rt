@@ -14,6 +14,7 @@ use requests::{Answer, Request};
 use std::io::Read;
 use step::Check;
 use step::checks::all_hold;
+use streams::read_full;
 
 mod lines;
 
@@ -65,28 +66,6 @@ fn keep_rest(input: &mut [u8], whole: usize) -> usize
     rest
 }
 
-// How many bytes a read put at the front of a room. None is the end of the input, and so is a read that fails.
-fn read_some(source: &mut impl Read, room: &mut [u8]) -> usize
-    ensures { result ≤ length room.new }
-{
-    source.read(room).unwrap_or(0)
-}
-
-// Reads until the room is full or the input ends; how many bytes it put at the front.
-fn read_full(source: &mut impl Read, room: &mut [u8]) -> usize
-    ensures { result ≤ length room.new }
-{
-    let mut done = 0;
-    while done < room.len() {
-        let got = read_some(source, &mut room[done..]);
-        if got == 0 {
-            break;
-        }
-        done += got;
-    }
-    done
-}
-
 // What has arrived of the input, put behind the first `have` bytes; how many bytes there are then. None more is the end of the input, and so is
 // a read that fails.
 fn read_more(source: &mut impl Read, input: &mut [u8], have: usize) -> usize
@@ -95,7 +74,7 @@ fn read_more(source: &mut impl Read, input: &mut [u8], have: usize) -> usize
     ensures kept { take have input.new ≡ take have input.old }
 {
     let room = input.len();
-    have + read_some(source, &mut input[have..room])
+    have + source.read(&mut input[have..room]).unwrap_or(0)
 }
 
 // The line of a refusal; the program ends after it, so nobody asks whether it was written.
@@ -144,15 +123,15 @@ fn answer_all(
     }
 }
 
-// "A bad script or net prints one such line and ends."
+// "A bad script or net prints one such line and ends." One whose read fails has not its length, and is bad.
 fn main(rt: HostRuntime) {
     let mut source = rt.stdin();
     let mut script_space = [0u8; script_image::SIZE];
     let script: &mut [u8] = &mut script_space;
-    let script_length = read_full(&mut source, script);
+    let script_length = read_full(&mut source, script).unwrap_or(0);
     let mut net_space = [0u8; net_image::SIZE];
     let net: &mut [u8] = &mut net_space;
-    let net_length = read_full(&mut source, net);
+    let net_length = read_full(&mut source, net).unwrap_or(0);
     let script_read = &script[..];
     let net_read = &net[..];
     let answer = image_answer(&script_read[0..script_length], &net_read[0..net_length]);

@@ -3,11 +3,10 @@
 // a line: the answer, and of a request also undone, touched, and the check sum of the net's bytes after it.
 #![tactic(auto)]
 
-ghost use Rattle.std.specs.Io.{ReadsAtMost};
-
 use machine::{call, image_answer};
 use requests::{Told, number};
 use std::io::{self, Read};
+use streams::read_full;
 
 const SCRIPT: usize = 2064;
 
@@ -57,21 +56,6 @@ fn print_told(rt: &impl Print, t: Told, sum: u32) -> io::Result<()> {
 }
 
 // ---- the stream
-
-// Reads until the room is full or the input ends; how many bytes it put at the front.
-fn read_full(input: &mut impl Read, room: &mut [u8]) -> io::Result<usize>
-    ensures { ReadsAtMost result room.new }
-{
-    let mut done = 0;
-    while done < room.len() {
-        let n = input.read(&mut room[done..])?;
-        if n == 0 {
-            break;
-        }
-        done += n;
-    }
-    Ok(done)
-}
 
 fn copy(from: &[u8], to: &mut [u8]) {
     if from.len() != NET {
