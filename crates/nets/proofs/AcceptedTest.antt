@@ -1,6 +1,6 @@
 -- The test of acceptance is true exactly when the net is accepted.
 --
--- In order: tests together; of each test, what it says (`..-says`) and when it holds (`..-holds`); the law (`accepted_test`).
+-- In order: tests together; of each test, what it says (`.._says`) and when it holds (`.._holds`); the law (`accepted_test`).
 -- Assumes nothing.
 use Rattle.std.specs.Prelude.{◌≡◌, ◌↔◌, Bool, ◌&&◌, ◌||◌, ℕ, ◌<◌, ltb}
 use Rattle.std.proofs.Math.Path.{refl, ap, subst}

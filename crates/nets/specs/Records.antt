@@ -1,7 +1,7 @@
 -- Laws of single records: forgetting, what an event's record says, and what a rule makes.
 --
 -- In order: kinds (`same_kind`, `past_kind`, `live_not_past` and the like); `forget` twice, and what it keeps; records with the same parts
--- (`same_slot_lem`); what each test on a record says and what makes it true (`OfEvents`, `made-..`, `took-..`, `read-..`, `locality-..`); what
+-- (`same_slot_lem`); what each test on a record says and what makes it true (`OfEvents`, `made_..`, `took_..`, `read_..`, `locality_..`); what
 -- stands at a key that was made (`Made`, `made_way`); a rule and an agreement carried over to another net (`rule_over`, `agrees_over`).
 -- Assumes nothing.
 use Rattle.std.specs.Prelude.{◌≡◌, ◌⊎◌, Bool, true, ℕ, ◌<◌, ltb}

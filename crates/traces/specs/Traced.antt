@@ -1,7 +1,7 @@
 -- What the code finds of the events of a net is what the theory says of its view: who made and used what, whether once, and who depends on whom.
 --
--- In order: what the rows of dependence say, over any rules (`Used`, `placed_used`, `rowHas`, `row_depends`); what an event's record says
--- (`event_at`, `made_at`, `taken_at`, `read_at`, `place_at`); the sets that the code finds (`events_in_lem`, `keys_once`, `keys_in`,
+-- In order: what the rows of dependence say, over any rules (`Used`, `placed_used`, `in_row`, `row_depends`); what an event's record says
+-- (`event_at`, `made_at_lem`, `taken_at`, `read_at`, `place_at_lem`); the sets that the code finds (`events_in_lem`, `keys_once`, `keys_in`,
 -- `localities_once`, `localities_in`, `taken_once`, `taken_in`); who depends on an event (`rows_depend`), as a
 -- graph among the events (`edges_depend`).
 -- Assumes nothing.
