@@ -1,6 +1,6 @@
 -- A net in range is accepted exactly when the verdict is that it is (`accepted_verdict`).
 -- Assumes nothing.
-use Rattle.std.specs.Prelude.{◌≡◌, ◌↔◌, true}
+use Rattle.std.specs.Prelude.{◌≡◌, ◌↔◌, true, Ok}
 use Rattle.std.proofs.Common.{subst}
 use Rattle.laws.specs.Choice.{and_left, and_right, and_both}
 use Rattle.laws.specs.Checks.{all}
@@ -18,12 +18,11 @@ use Rattle.rules.specs.View.{view, beyond}
 use Rattle.accept.specs.Verdict.{all_agree, verdict, verdict_of}
 use Rattle.accept.specs.Laws.{Says, first_of, verdict_says}
 use Rattle.accept.specs.Forms.{net_formed_lem}
-use Rattle.accept.specs.declared.Verdict.{Verdict}
 
 -- ---- acceptance
 
 module _ (s : Script) (n : Net (rules_of s)) where
-  accepted_all : all key_count (λ k. formed same_body (n.slot k)) ≡ true → Says s n Verdict.Accepted → is_accepted s n ≡ true
+  accepted_all : all key_count (λ k. formed same_body (n.slot k)) ≡ true → Says s n (Ok tt) → is_accepted s n ≡ true
   unfolding accepted all_agree
   accepted_all forms (a, o, t, l, r, c) =
       and_both (all key_count (λ k. formed same_body (n.slot k))) _ forms
@@ -31,7 +30,7 @@ module _ (s : Script) (n : Net (rules_of s)) where
       (and_both (once_each locality_count n) _ o
       (and_both (tuples_right n) _ t (and_both (localities_right locality_count n) _ l (and_both (roots_right n) _ r c)))))
 
-  all_accepted : is_accepted s n ≡ true → verdict s n ≡ Verdict.Accepted
+  all_accepted : is_accepted s n ≡ true → verdict s n ≡ Ok tt
   unfolding accepted all_agree verdict
   all_accepted h =
       let h₁ = and_right (all key_count (λ k. formed same_body (n.slot k))) _ h in
@@ -48,7 +47,7 @@ module _ (s : Script) (n : Net (rules_of s)) where
       λ i. first_of (a i) (o i) (t i) (l i) (r i) (c i)
 
 -- the net of an image in range is accepted exactly when the verdict on it is
-pub accepted_verdict : (s : Script) (n : Images.Net) → ShapedNet n → net_in_range n ≡ true → (verdict_of s n ≡ Verdict.Accepted) ↔ Accepted (view s n)
+pub accepted_verdict : (s : Script) (n : Images.Net) → ShapedNet n → net_in_range n ≡ true → (verdict_of s n ≡ Ok tt) ↔ Accepted (view s n)
 accepted_verdict s n v range =
     let tested = accepted_is_tested s (view s n) (beyond s n) in (
       λ h. tested.0 (accepted_all s (view s n) (net_formed_lem s n v range) (subst (Says s (view s n)) h (verdict_says s (view s n)))),

@@ -1,12 +1,12 @@
 -- The tests that the code makes of the net as a whole (`Whole`) are the theory's (`nets`, `Accepting`), of the net that the image holds; so
 -- what the code answers is the verdict.
 --
--- In order: tests together (`all_and`, `picked`, `either_both` and their kin); what the code looks at: two sets of localities (`shifted_same`), a root
--- (`root_at`), a tuple (`consumed_tuple` and its kin); agreement (`agree_told`), by which events that use a tuple have its key (`used_told`); made
--- and taken once (`once_told`); tuples, localities and roots (`tuples_told`, `localities_told`, `roots_told`); dependence (`cycle_told`);
+-- In order: tests together (`all_and`, `picked`, `either_both` and their kin); what the code looks at: two sets of localities (`shifted_same`), a
+-- root (`root_at`), a tuple (`consumed_tuple` and its kin); agreement (`agree_told`), by which events that use a tuple have its key (`used_told`);
+-- made and taken once (`once_told`); tuples, localities and roots (`tuples_told`, `localities_told`, `roots_told`); dependence (`cycle_told`);
 -- arrays of a net that was taken apart (`whole_contents`, `whole_refs`); the code's answers, one by one (`verdict_disagrees` and its kin).
 -- Assumes nothing.
-use Rattle.std.specs.Prelude.{ℕ, ◌+◌, ◌-◌, ◌/◌, ◌%◌, ◌^◌, ◌<◌, ◌≤◌, ◌≡◌, refl, Bool, false, ◌&&◌, ◌||◌, List, eqb, ltb, leb, length}
+use Rattle.std.specs.Prelude.{ℕ, ◌+◌, ◌-◌, ◌/◌, ◌%◌, ◌^◌, ◌<◌, ◌≤◌, ◌≡◌, refl, Bool, false, ◌&&◌, ◌||◌, List, eqb, ltb, leb, length, Ok, Err}
 use Rattle.std.proofs.Math.Nat.{div-div-eq-div-mul}
 use Rattle.std.proofs.Common.{mul_comm, ap₂, ◌∙◌, subst, arith, pow-add, eqb-true, eq-eqb, ne_eqb, ltb-true, ltb-false, lt-ltb, le-leb, leb-true}
 use Rattle.std.proofs.Math.Path.{ap, sym, fun_ext}
@@ -46,13 +46,12 @@ use Rattle.agreement.proofs.Agreed.{agrees_is}
 use Rattle.traces.specs.Traces.{deeds_of, deed_at, events_of, keys_made, localities_made, tuples_taken, rows_of}
 use Rattle.traces.specs.Marks.{whole_script}
 use Rattle.traces.specs.Traced.{Used, event_at, taken_at, events_in_lem, keys_once, keys_in, localities_once, localities_in, taken_once, taken_in, edges_depend}
-use Rattle.traces.specs.declared.KeyMarks.{KeyMarks}
-use Rattle.traces.specs.declared.PlaceMarks.{PlaceMarks}
+use Rattle.traces.specs.declared.Marks.{Marks}
 use Rattle.cycles.specs.Cycles.{edges, members}
 use Rattle.accept.specs.Whole as W
 use Rattle.accept.specs.Verdict.{all_agree, verdict, verdict_of}
 use Rattle.accept.specs.Laws.{first_of}
-use Rattle.accept.specs.declared.Verdict.{Verdict}
+use Rattle.accept.specs.declared.Fault.{Fault}
 
 -- ---- tests together
 
@@ -246,13 +245,13 @@ module _ (s : Script) (n : Images.Net) where
   abbrev taken_gone : ℕ → Bool
   taken_gone f = takes seen f (seen.slot f).used ⇒ not (is_live_tuple (seen.slot (seen.slot f).used).kind)
 
-  tuple_told : (k : ℕ) → k < key_count → W.tuple_right (deed_at deeds k) (key k) (slot_at n k) (slot_with n (slot_at n k).used) (tuples_taken deeds n).keys ≡ (consumed_taken k && taken_gone k)
+  tuple_told : (k : ℕ) → k < key_count → W.tuple_right (deed_at deeds k) (key k) (slot_at n k) (slot_with n (slot_at n k).used) (tuples_taken deeds n).names ≡ (consumed_taken k && taken_gone k)
   unfolding W.tuple_right
   tuple_told k l =
-      either_both (eqb (slot_at n k).kind 4) (is_in (tuples_taken deeds n).keys (key k)) (eqb (deed_at deeds k) 2) (not (eqb (slot_with n (slot_at n k).used).kind 3)) (consumed_idle k l) ∙
+      either_both (eqb (slot_at n k).kind 4) (is_in (tuples_taken deeds n).names (key k)) (eqb (deed_at deeds k) 2) (not (eqb (slot_with n (slot_at n k).used).kind 3)) (consumed_idle k l) ∙
       (λ i. (consumed_at k l i ⇒ taken_in s n k l i) && (took_at k l i ⇒ not (live_at k l i)))
 
-  tuples_told : W.tuples_right deeds n (tuples_taken deeds n).keys ≡ A.tuples_right seen
+  tuples_told : W.tuples_right deeds n (tuples_taken deeds n).names ≡ A.tuples_right seen
   unfolding W.tuples_right A.tuples_right
   tuples_told = all_ext key_count _ (λ k. consumed_taken k && taken_gone k) tuple_told ∙ all_and key_count consumed_taken taken_gone
 
@@ -261,14 +260,14 @@ module _ (s : Script) (n : Images.Net) where
   present_at : (l : ℕ) → l < locality_count → holds n.present (locality l) ≡ seen.present l
   present_at l b = sym (view_present s n l ∙ ap (λ (c : Bool). c && member n.present.0 l) (lt-ltb l locality_count b))
 
-  localities_told : W.localities_right n.present (localities_made deeds n).set ≡ A.localities_right locality_count seen
+  localities_told : W.localities_right n.present (localities_made deeds n).names ≡ A.localities_right locality_count seen
   unfolding W.localities_right W.locality_right A.localities_right
   localities_told =
       all_ext locality_count _ _ (λ l b. λ i. makeable l ⇒ sameb (present_at l b i) (localities_in s n l b i))
 
   -- ---- records that nobody made
 
-  root_told : (k : ℕ) → k < key_count → W.root_right n.present (is_in (keys_made n).keys (key k)) (slot_at n k) ≡ (not (is_free (seen.slot k).kind) ⇒ (is_made seen k || (rooted (seen.slot k).body && seen.present (seen.slot k).body.locality.0)))
+  root_told : (k : ℕ) → k < key_count → W.root_right n.present (is_in (keys_made n).names (key k)) (slot_at n k) ≡ (not (is_free (seen.slot k).kind) ⇒ (is_made seen k || (rooted (seen.slot k).body && seen.present (seen.slot k).body.locality.0)))
   unfolding W.root_right
   root_told k l =
       let x = slot_at n k in
@@ -278,7 +277,7 @@ module _ (s : Script) (n : Images.Net) where
       (λ i. not (free i) ⇒ (keys_in s n k l i || (rooted (body_of x) && there i))) ∙
       ap (λ (z : Slot (rules_of s)). not (is_free z.kind) ⇒ (is_made seen k || (rooted z.body && seen.present z.body.locality.0))) (sym (view_slot s n k l))
 
-  roots_told : W.roots_right n (keys_made n).keys ≡ A.roots_right seen
+  roots_told : W.roots_right n (keys_made n).names ≡ A.roots_right seen
   unfolding W.roots_right A.roots_right
   roots_told = all_ext key_count _ _ root_told
 
@@ -318,11 +317,11 @@ module _ (script net : List ℕ) (agrees : Bool) (tested : agrees ≡ all key_co
   by_agreement : all key_count (slot_agrees s n) ≡ all_agree s (view s n)
   by_agreement = agree_told s n (whole_script script) (whole_contents net) (whole_refs net)
 
-  pub verdict_disagrees : agrees ≡ false → Verdict.Disagrees ≡ verdict_of s n
+  pub verdict_disagrees : agrees ≡ false → Err Fault.Disagrees ≡ verdict_of s n
   unfolding verdict
   verdict_disagrees h = rw (sym by_agreement ∙ sym tested ∙ h)
 
-  module _ (yes : agrees ≡ true) (ds : List ℕ) (made : KeyMarks) (places : PlaceMarks) (taken : KeyMarks) (did : ds ≡ deeds_of s n) (keys-are : made ≡ keys_made n) (places-are : places ≡ localities_made ds n) (taken-are : taken ≡ tuples_taken ds n) where
+  module _ (yes : agrees ≡ true) (ds : List ℕ) (made : Marks Keys) (places : Marks Localities) (taken : Marks Keys) (did : ds ≡ deeds_of s n) (keys-are : made ≡ keys_made n) (places-are : places ≡ localities_made ds n) (taken-are : taken ≡ tuples_taken ds n) where
     all_agree_lem : all_agree s (view s n) ≡ true
     all_agree_lem = sym by_agreement ∙ sym tested ∙ yes
 
@@ -335,13 +334,13 @@ module _ (script net : List ℕ) (agrees : Bool) (tested : agrees ≡ all key_co
 
     -- the code's tests of the net as a whole, and the theory's last
     abbrev tuples_test : Bool
-    tuples_test = W.tuples_right ds n taken.keys
+    tuples_test = W.tuples_right ds n taken.names
 
     abbrev localities_test : Bool
-    localities_test = W.localities_right n.present places.set
+    localities_test = W.localities_right n.present places.names
 
     abbrev roots_test : Bool
-    roots_test = W.roots_right n made.keys
+    roots_test = W.roots_right n made.names
 
     abbrev order_test : Bool
     order_test = acyclic key_count (depends (view s n)) (events (view s n))
@@ -350,13 +349,13 @@ module _ (script net : List ℕ) (agrees : Bool) (tested : agrees ≡ all key_co
     once_found = (λ i. (keys-are i).once && ((places_found i).once && (taken_found i).once)) ∙ once_told s n
 
     tuples_found : tuples_test ≡ A.tuples_right (view s n)
-    tuples_found = (λ i. W.tuples_right (did i) n (taken_found i).keys) ∙ tuples_told s n
+    tuples_found = (λ i. W.tuples_right (did i) n (taken_found i).names) ∙ tuples_told s n
 
     localities_found : localities_test ≡ A.localities_right locality_count (view s n)
-    localities_found = ap (λ (m : PlaceMarks). W.localities_right n.present m.set) places_found ∙ localities_told s n
+    localities_found = ap (λ (m : Marks Localities). W.localities_right n.present m.names) places_found ∙ localities_told s n
 
     roots_found : roots_test ≡ A.roots_right (view s n)
-    roots_found = ap (λ (m : KeyMarks). W.roots_right n m.keys) keys-are ∙ roots_told s n
+    roots_found = ap (λ (m : Marks Keys). W.roots_right n m.names) keys-are ∙ roots_told s n
 
     -- the verdict, by the tests that the code made; the last is the theory's
     by_tests : (t l r : Bool) → t ≡ tuples_test → l ≡ localities_test → r ≡ roots_test → first_of true (made.once && (places.once && taken.once)) t l r order_test ≡ verdict_of s n
@@ -368,39 +367,36 @@ module _ (script net : List ℕ) (agrees : Bool) (tested : agrees ≡ all key_co
         let roots = er ∙ roots_found in
         λ i. first_of (yes-all i) (once_found i) (tuples i) (localities i) (roots i) order_test
 
-    said_twice : (made.once && (places.once && taken.once)) ≡ false → Verdict.Twice ≡ verdict_of s n
-    said_twice h =
+    pub verdict_twice : (made.once && (places.once && taken.once)) ≡ false → Err Fault.Twice ≡ verdict_of s n
+    verdict_twice h =
         sym (λ i. first_of true (h i) tuples_test localities_test roots_test order_test) ∙
         by_tests tuples_test localities_test roots_test refl refl refl
 
-    pub verdict_key_twice : made.once ≡ false → Verdict.Twice ≡ verdict_of s n
-    verdict_key_twice h = said_twice (λ i. h i && (places.once && taken.once))
+    pub verdict_key_twice : made.once ≡ false → Err Fault.Twice ≡ verdict_of s n
+    verdict_key_twice h = verdict_twice (λ i. h i && (places.once && taken.once))
 
-    pub verdict_locality_twice : made.once ≡ true → places.once ≡ false → Verdict.Twice ≡ verdict_of s n
-    verdict_locality_twice m h = said_twice (λ i. m i && (h i && taken.once))
+    pub verdict_locality_twice : made.once ≡ true → places.once ≡ false → Err Fault.Twice ≡ verdict_of s n
+    verdict_locality_twice m h = verdict_twice (λ i. m i && (h i && taken.once))
 
-    pub verdict_tuple_twice : made.once ≡ true → places.once ≡ true → taken.once ≡ false → Verdict.Twice ≡ verdict_of s n
-    verdict_tuple_twice m p h = said_twice (λ i. m i && (p i && h i))
+    pub verdict_tuple_twice : made.once ≡ true → places.once ≡ true → taken.once ≡ false → Err Fault.Twice ≡ verdict_of s n
+    verdict_tuple_twice m p h = verdict_twice (λ i. m i && (p i && h i))
 
-    module _ (m : made.once ≡ true) (p : places.once ≡ true) (t : taken.once ≡ true) where
-      once_all : (made.once && (places.once && taken.once)) ≡ true
-      once_all = λ i. m i && (p i && t i)
-
-      pub verdict_tuple : {b : Bool} → b ≡ tuples_test → b ≡ false → Verdict.WrongTuple ≡ verdict_of s n
+    module _ (once_all : (made.once && (places.once && taken.once)) ≡ true) where
+      pub verdict_tuple : {b : Bool} → b ≡ tuples_test → b ≡ false → Err Fault.WrongTuple ≡ verdict_of s n
       verdict_tuple {b} e h =
           sym (λ i. first_of true (once_all i) (h i) localities_test roots_test order_test) ∙
           by_tests b localities_test roots_test e refl refl
 
       -- the present set was looked up
-      looked_up : {present : Localities} {c : Bool} → present ≡ n.present → c ≡ W.localities_right present places.set → c ≡ localities_test
-      looked_up there f = f ∙ ap (λ (l : Localities). W.localities_right l places.set) there
+      looked_up : {present : Localities} {c : Bool} → present ≡ n.present → c ≡ W.localities_right present places.names → c ≡ localities_test
+      looked_up there f = f ∙ ap (λ (l : Localities). W.localities_right l places.names) there
 
-      pub verdict_locality : {present : Localities} {b c : Bool} → b ≡ tuples_test → b ≡ true → present ≡ n.present → c ≡ W.localities_right present places.set → c ≡ false → Verdict.WrongLocality ≡ verdict_of s n
+      pub verdict_locality : {present : Localities} {b c : Bool} → b ≡ tuples_test → b ≡ true → present ≡ n.present → c ≡ W.localities_right present places.names → c ≡ false → Err Fault.WrongLocality ≡ verdict_of s n
       verdict_locality {b = b} {c = c} e h there f k =
           sym (λ i. first_of true (once_all i) (h i) (k i) roots_test order_test) ∙ by_tests b c roots_test e (looked_up there f) refl
 
-      module _ {present : Localities} {b c : Bool} (e : b ≡ tuples_test) (h : b ≡ true) (there : present ≡ n.present) (f : c ≡ W.localities_right present places.set) (k : c ≡ true) where
-        pub verdict_root : {d : Bool} → d ≡ roots_test → d ≡ false → Verdict.WrongRoot ≡ verdict_of s n
+      module _ {present : Localities} {b c : Bool} (e : b ≡ tuples_test) (h : b ≡ true) (there : present ≡ n.present) (f : c ≡ W.localities_right present places.names) (k : c ≡ true) where
+        pub verdict_root : {d : Bool} → d ≡ roots_test → d ≡ false → Err Fault.WrongRoot ≡ verdict_of s n
         verdict_root {d} g q = sym (λ i. first_of true (once_all i) (h i) (k i) (q i) order_test) ∙ by_tests b c d e (looked_up there f) g
 
         module _ {d : Bool} (g : d ≡ roots_test) (q : d ≡ true) (evs : Keys) (rows : List Keys) (evs-are : evs ≡ events_of n) (rows_are : rows ≡ rows_of ds n evs) where
@@ -409,12 +405,12 @@ module _ (script net : List ℕ) (agrees : Bool) (tested : agrees ≡ all key_co
               let rows-found : rows ≡ rows_of (deeds_of s n) n (events_of n) = rows_are ∙ (λ i. rows_of (did i) n (evs-are i)) in
               (λ i. acyclic key_count (edges (rows-found i) (evs-are i)) (members (evs-are i))) ∙ cycle_told s n all_agree_lem
 
-          pub verdict_cycle : {o : Bool} → o ≡ acyclic key_count (edges rows evs) (members evs) → o ≡ false → Verdict.Cycle ≡ verdict_of s n
+          pub verdict_cycle : {o : Bool} → o ≡ acyclic key_count (edges rows evs) (members evs) → o ≡ false → Err Fault.Cycle ≡ verdict_of s n
           verdict_cycle u z =
               let order = sym order_found ∙ sym u ∙ z in
               sym (λ i. first_of true (once_all i) (h i) (k i) (q i) (order i)) ∙ by_tests b c d e (looked_up there f) g
 
-          pub verdict_accepted : {o : Bool} → o ≡ acyclic key_count (edges rows evs) (members evs) → o ≡ true → Verdict.Accepted ≡ verdict_of s n
+          pub verdict_accepted : {o : Bool} → o ≡ acyclic key_count (edges rows evs) (members evs) → o ≡ true → Ok tt ≡ verdict_of s n
           verdict_accepted u z =
               let order = sym order_found ∙ sym u ∙ z in
               sym (λ i. first_of true (once_all i) (h i) (k i) (q i) (order i)) ∙ by_tests b c d e (looked_up there f) g

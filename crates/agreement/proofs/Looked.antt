@@ -1,7 +1,7 @@
 -- The tests of an event as the code makes them are those of `Agreement`, since what check 7 found is where it acted (`applies_is`, `second_is`); so an event
--- is told by the answers to its tests, in their order (`unready` to `second_tells`).
+-- agrees where all of them hold (`by_tests`), and not where it was not ready (`unready`).
 -- Assumes nothing.
-use Rattle.std.specs.Prelude.{◌≡◌, Bool, true, false, ◌&&◌}
+use Rattle.std.specs.Prelude.{◌≡◌, Bool, true, false, ◌&&◌, Some, None}
 use Rattle.std.proofs.Math.Path.{ap, sym}
 use Rattle.std.proofs.Common.{◌∙◌}
 use Rattle.std.proofs.Math.Bool.{and-false}
@@ -16,7 +16,6 @@ use Rattle.images.specs.declared.Net.{Net}
 use Rattle.products.specs.Body.{body_of}
 use Rattle.products.specs.Products.{is_step, is_out, is_eval, meets_tuple, makes_second, target_by, target_there, ready_by}
 use Rattle.products.specs.Acting.{acts_at, readiness, ready_acts, unset_false, acts_there, acts_target, second_at, second_acts}
-use Rattle.products.specs.declared.Readiness.TheVariants as Readiness
 use Rattle.agreement.specs.Agreement.{placed_by, tuple_fits, ruled_by, stands_as, first_stands, second_stands, products_stand, agrees_by}
 use Rattle.agreement.specs.Looked.{applies_at, second_stands_at, agrees_in}
 
@@ -48,11 +47,11 @@ module _ (a : Action) (x : Slot) (l : Locality) (ready : ready_by a x.contents �
 -- ---- an event x at the node a, by the answers to its tests
 
 module _ (a : Action) (k : Key) (x : Slot) (n : Net) where
-  pub unready : readiness a x.locality x.contents ≡ Readiness.Unset → agrees_in a k x n ≡ false
+  pub unready : readiness a x.locality x.contents ≡ None → agrees_in a k x n ≡ false
   unfolding agrees_by ruled_by
   unready e = rw (unset_false a x.locality x.contents e, and-false (placed_by a.kind x), and-false (is_step a.kind))
 
-  module _ {l : Locality} (e : readiness a x.locality x.contents ≡ Readiness.Ready l) where
+  module _ {l : Locality} (e : readiness a x.locality x.contents ≡ Some l) where
     abbrev rule : Bool
     rule = applies_at a x l n
 
@@ -62,27 +61,8 @@ module _ (a : Action) (k : Key) (x : Slot) (n : Net) where
     abbrev second : Action → Bool
     second b = second_stands_at b x l (slot_with n x.second)
 
-    by_tests : (rule && (first a && second a)) ≡ agrees_in a k x n
+    pub by_tests : (rule && (first a && second a)) ≡ agrees_in a k x n
     unfolding agrees_by products_stand
     by_tests =
         let found = ready_acts a x.locality x.contents l e in
         λ i. applies_is a x l found.0 found.1 n i && (first a && second_is a x l found.0 found.1 (slot_with n x.second) i)
-
-    pub rule_fails : {b : Bool} → b ≡ rule → b ≡ false → agrees_in a k x n ≡ false
-    rule_fails is_b fails = sym by_tests ∙ ap (λ (b : Bool). b && (first a && second a)) (sym is_b ∙ fails)
-
-    after_rule : {b : Bool} → b ≡ rule → b ≡ true → agrees_in a k x n ≡ (first a && second a)
-    after_rule is_b holds = sym by_tests ∙ ap (λ (b : Bool). b && (first a && second a)) (sym is_b ∙ holds)
-
-    module _ {b : Bool} (is_b : b ≡ rule) (holds : b ≡ true) {d : Action} (is-a : d ≡ a) where
-      pub first_fails : {c : Bool} → c ≡ first d → c ≡ false → agrees_in a k x n ≡ false
-      first_fails is_c fails =
-          after_rule is_b holds ∙ ap (λ (c : Bool). c && second a) (ap first (sym is-a) ∙ sym is_c ∙ fails)
-
-      pub second_tells : {c r : Bool} → c ≡ first d → c ≡ true → r ≡ second d → r ≡ agrees_in a k x n
-      second_tells is_c stands is-r =
-          sym
-          (after_rule is_b holds ∙
-          ap (λ (c : Bool). c && second a) (ap first (sym is-a) ∙ sym is_c ∙ stands) ∙
-          ap second (sym is-a) ∙
-          sym is-r)

@@ -6,7 +6,7 @@
 -- to each (`bad_follows`, `done_follows`, `refused_follows`), and so to one call (`one_call`); calls in a row (`run_on_bytes`, `end_on_bytes`), after which
 -- the net is again one that an image holds (`end_kept`).
 -- Assumes nothing.
-use Rattle.std.specs.Prelude.{ℕ, ◌≡◌, true, eqb}
+use Rattle.std.specs.Prelude.{ℕ, ◌≡◌, true, eqb, Option, Some, is_some, unwrap_or}
 use Rattle.std.proofs.Math.Path.{refl, ap, ap₂, subst}
 use Rattle.std.proofs.Common.{sym, ◌∙◌}
 use Rattle.std.proofs.Math.Bool.{false}
@@ -14,14 +14,12 @@ use mathlib.Core.List.{List, [], ◌∷◌}
 use borrow.Author.Tests.{eqb-true}
 use Rattle.laws.specs.Choice.{cases, clash, and_both}
 use Rattle.images.specs.Script.{script_bytes, script_in_range}
-use Rattle.images.specs.Net.{net_bytes}
-use Rattle.images.specs.Read as Read
-use Rattle.images.specs.Read.{read_script, read_net}
+use Rattle.images.specs.Net.{net_bytes, empty_net}
+use Rattle.images.specs.Read.{nil_script, read_script, read_net}
 use Rattle.images.specs.Round.{script_again, script_formed_lem, net_again, net_formed_lem}
 use Rattle.images.specs.Shape.{ShapedScript}
 use Rattle.images.specs.declared.Script.{Script}
-use Rattle.images.specs.declared.ScriptRead.{ScriptRead}
-use Rattle.images.specs.declared.NetRead.{NetRead}
+use Rattle.images.specs.declared.Net as Images
 use Rattle.nets.specs.Net.{Net}
 use Rattle.nets.specs.Accepted.{Accepted}
 use Rattle.rules.specs.Instance.{rules_of}
@@ -32,11 +30,10 @@ use Rattle.rules.specs.Image.{image_of}
 use Rattle.requests.specs.Checks.{refusal}
 use Rattle.requests.specs.Answers as Theory
 use Rattle.requests.specs.Answers.{Request, Outcome, in_range, outcome}
-use Rattle.requests.specs.Requests.{number, is_done, answer_of, done_number, request_of}
-use Rattle.requests.specs.declared.RequestRead.TheVariants as RequestRead
+use Rattle.requests.specs.Requests.{asked, asked_back, number, is_done, answer_of, done_number, request_of}
 use Rattle.requests.specs.declared.Answer.{Answer}
 use Rattle.step.specs.Lent.{Good, told, lent_after}
-use Rattle.machine.specs.Calls.{is_good, script_in, net_in, good_script, good_net, told_by, Reply, refused_with, reply_to, reply}
+use Rattle.machine.specs.Calls.{script_in, net_in, good_script, good_net, told_by, Reply, refused_with, reply_to, reply}
 use Rattle.machine.specs.After.{Kept}
 use Rattle.machine.specs.Bytes.{served_number, Call, bad_script_lem, bad_net_lem, bad_request, all_read, call, after_kept}
 use Rattle.cases.specs.Table.{Result, line}
@@ -120,32 +117,32 @@ module _ (s : Script) (m : Net (rules_of s)) (r : Request) where
 -- ---- one call
 
 module _ (s : Script) (w : ShapedScript s) (range : script_in_range s ≡ true) where
-  script_in_lem : read_script (script_bytes s) ≡ Read.good_script s
+  script_in_lem : read_script (script_bytes s) ≡ Some s
   unfolding read_script
   script_in_lem = rw (script_formed_lem s w range, script_again s w range)
 
   script_good : good_script (script_bytes s) ≡ true
-  script_good = ap (λ (x : ScriptRead). is_good x.form) script_in_lem
+  script_good = ap (λ (x : Option Script). is_some x) script_in_lem
 
   module _ (m : Net (rules_of s)) (k : Kept s m) where
     abbrev N : List ℕ
     N = image_bytes s m
 
-    net_in_lem : read_net N ≡ Read.good_net (image_of s m)
+    net_in_lem : read_net N ≡ Some (image_of s m)
     unfolding read_net
     net_in_lem = rw (net_formed_lem (image_of s m) k.shaped k.range, net_again (image_of s m) k.shaped k.range)
 
     seen : view s (net_in N) ≡ m
-    seen = ap (λ (a : NetRead). view s a.net) net_in_lem ∙ k.viewed
+    seen = ap (λ (a : Option Images.Net). view s (unwrap_or a empty_net)) net_in_lem ∙ k.viewed
 
     net_held : good_net s N ≡ true
     unfolding good_net
     net_held =
-        and_both (is_good (read_net N).form) _ (ap (λ (a : NetRead). is_good a.form) net_in_lem)
+        and_both (is_some (read_net N)) _ (ap (λ (a : Option Images.Net). is_some a) net_in_lem)
         ((accepted_is_tested s (view s (net_in N)) (beyond s (net_in N))).1 (subst Accepted (sym seen) k.accepted))
 
     net_good : good_net (script_in (script_bytes s)) N ≡ true
-    net_good = ap (λ (x : ScriptRead). good_net x.script N) script_in_lem ∙ net_held
+    net_good = ap (λ (x : Option Script). good_net (unwrap_or x nil_script) N) script_in_lem ∙ net_held
 
     good : Good s (image_of s m)
     good = record { script = range; net = k.range; accepted = subst Accepted (sym k.viewed) k.accepted }
@@ -161,19 +158,24 @@ module _ (s : Script) (w : ShapedScript s) (range : script_in_range s ≡ true) 
       abbrev reply_by : Outcome (rules_of s) → Reply
       reply_by x = record { told = told (told_by s x); net = lent_after (told_by s x) N }
 
+      -- a request in range is what is read from its bytes
+      asks : in_range r ≡ true → asked (request_of (request_bytes r)) ≡ r
+      asks h = asked_back (request_bytes r) h
+
       -- both images are read, so the request is served on them
-      reply_read : a ≡ reply_to (script_in (script_bytes s)) (net_in N) N (RequestRead.Request (request_of (request_bytes r))) → a ≡ reply_by o
-      reply_read e =
+      reply_read : in_range r ≡ true → a ≡ reply_to (script_in (script_bytes s)) (net_in N) N (Some (request_of (request_bytes r))) → a ≡ reply_by o
+      reply_read h e =
           e ∙
-          ap₂ (λ (x : ScriptRead) (y : NetRead). reply_to x.script y.net N (RequestRead.Request (request_of (request_bytes r)))) script_in_lem net_in_lem ∙
-          ap (λ (v : Net (rules_of s)). reply_by (outcome (rolled_by s) v r)) k.viewed
+          ap₂ (λ (x : Option Script) (y : Option Images.Net). reply_to (unwrap_or x nil_script) (unwrap_or y empty_net) N (Some (request_of (request_bytes r)))) script_in_lem net_in_lem ∙
+          (λ i. reply_by (outcome (rolled_by s) (k.viewed i) (asks h i)))
 
       -- the number that is told is the theory's
-      number_there : number (answer_of o.answer) ≡ answer_there s m r
+      number_there : in_range r ≡ true → number (answer_of o.answer) ≡ answer_there s m r
       unfolding told_by
-      number_there =
+      number_there h =
           subst (λ (v : Net (rules_of s)). number (answer_of (outcome (rolled_by s) v r).answer) ≡ answer_there s v r) k.viewed
-          (served_number s (image_of s m) (request_of (request_bytes r)))
+          (subst (λ (q : Request). number (answer_of (outcome (rolled_by s) (view s (image_of s m)) q).answer) ≡ answer_there s (view s (image_of s m)) q) (asks h)
+          (served_number s (image_of s m) (request_of (request_bytes r))))
 
       bad_follows : Follows s (refused_there s m 3) (refused_with Answer.BadRequest N)
       bad_follows = record { answer = refl; undone = refl; touched = refl; net = refl; kept = k }
@@ -190,17 +192,19 @@ module _ (s : Script) (w : ShapedScript s) (range : script_in_range s ≡ true) 
             net = refl;
             kept =
                 subst (λ (v : Net (rules_of s)). Kept s (Theory.net_after (rolled_by s) v r)) k.viewed
-                (after_kept s w (image_of s m) k.shaped good (request_of (request_bytes r)) h
-                (subst (λ (v : Net (rules_of s)). answer_there s v r ≡ 0) (sym k.viewed) zero-there));
+                (subst (λ (q : Request). Kept s (Theory.net_after (rolled_by s) (view s (image_of s m)) q)) (asks h)
+                (after_kept s w (image_of s m) k.shaped good (request_of (request_bytes r)) (ap in_range (asks h) ∙ h)
+                (ap (answer_there s (view s (image_of s m))) (asks h) ∙
+                subst (λ (v : Net (rules_of s)). answer_there s v r ≡ 0) (sym k.viewed) zero-there)));
           }
 
-      refused_follows : eqb (answer_there s m r) 0 ≡ false
+      refused_follows : in_range r ≡ true → eqb (answer_there s m r) 0 ≡ false
           → Follows s (refused_there s m (answer_there s m r)) (reply_by (refused_there s m (answer_there s m r)))
       unfolding told_by lent_after
-      refused_follows z =
+      refused_follows h z =
           let not_done : is_done (answer_of (answer_there s m r)) ≡ false = done_number (answer_there s m r) ∙ z in
           record {
-            answer = ap (λ (x : Outcome (rules_of s)). number (answer_of x.answer)) (sym (outcome_refused s m r z)) ∙ number_there;
+            answer = ap (λ (x : Outcome (rules_of s)). number (answer_of x.answer)) (sym (outcome_refused s m r z)) ∙ number_there h;
             undone = refl;
             touched = refl;
             net = rw not_done refl;
@@ -223,13 +227,13 @@ module _ (s : Script) (w : ShapedScript s) (range : script_in_range s ≡ true) 
               by (done_there s m r) e (reply_by (done_there s m r)) (q ∙ ap reply_by e) (done_follows h z))
               (λ z.
               let e = outcome_refused s m r z in
-              by (refused_there s m (answer_there s m r)) e (reply_by (refused_there s m (answer_there s m r))) (q ∙ ap reply_by e) (refused_follows z))
+              by (refused_there s m (answer_there s m r)) e (reply_by (refused_there s m (answer_there s m r))) (q ∙ ap reply_by e) (refused_follows h z))
 
           each : Call (script_bytes s) N (request_bytes r) → Follows s o a
           each (bad_script_lem g e) = clash (good_script (script_bytes s)) script_good g
           each (bad_net_lem g h e) = clash (good_net (script_in (script_bytes s)) N) net_good h
           each (bad_request g h q e) = by (refused_there s m 3) (outcome_bad s m r q) (refused_with Answer.BadRequest N) e bad_follows
-          each (all_read g h q e) = served q (reply_read e)
+          each (all_read g h q e) = served q (reply_read q e)
 
   -- ---- calls in a row
 

@@ -13,7 +13,7 @@ ghost use Rattle.order.specs.Peeling.{acyclic};
 ghost use Rattle.cycles.specs.Highest.{Highest};
 ghost use Rattle.cycles.specs.Cycles.{edges, members, after_taking};
 
-use names::{Key, Keys};
+use names::{Key, Keys, Name, NameSet};
 
 const LAST: u8 = Key::LIMIT - 1;
 
@@ -25,19 +25,18 @@ pub fn highest(set: Keys) -> Key
     requires { is_empty set ≡ false }
     ensures { Highest set result }
 {
-    let above = u64::leading_zeros(set.0) as u8;
+    let above = set.0.leading_zeros() as u8;
     Key(LAST - above)
 }
 
 // What is left once this key of those left is taken, which may be where no key that is left depends on it.
+#[tactic(auto, unfolding(crate::specs::Cycles::after_taking))]
 fn take_last(row: Keys, left: Keys, k: Key) -> Keys
     requires { (k.0 < key_count) × (is_in left k ≡ true) }
     ensures { result ≡ after_taking row left k }
 {
-    let others = left.without(k);
-    let after = row.both(left);
-    if after.is_empty() {
-        return others;
+    if row.both(left).is_empty() {
+        return left.without(k);
     }
     left
 }
@@ -47,10 +46,7 @@ fn look_at(left: Keys, back: Key) -> Key
     requires { is_empty left ≡ false }
     ensures { (result.0 < key_count) × (is_in left result ≡ true) }
 {
-    if !back.is_key() {
-        return highest(left);
-    }
-    if left.has(back) {
+    if back.is_name() && left.has(back) {
         return back;
     }
     highest(left)
@@ -62,8 +58,7 @@ fn peels_away(rows: [Keys; Key::COUNT], keys: Keys) -> bool
     ensures { result ≡ acyclic key_count (edges rows keys) (members keys) }
 {
     let mut left = keys;
-    let mut turn: u8 = 0;
-    while turn < Key::LIMIT {
+    for _turn in 0..Key::LIMIT {
         if left.is_empty() {
             return true;
         }
@@ -75,11 +70,10 @@ fn peels_away(rows: [Keys; Key::COUNT], keys: Keys) -> bool
             rest = take_last(row, rest, k);
             to_come = to_come.without(k);
         }
-        if rest.0 == left.0 {
+        if rest == left {
             return false;
         }
         left = rest;
-        turn += 1;
     }
     left.is_empty()
 }
@@ -92,8 +86,7 @@ pub fn has_no_cycle(rows: [Keys; Key::COUNT], keys: Keys) -> bool
     let mut left = keys;
     let mut at = Key::NONE;
     let mut from = [Key::NONE; Key::COUNT];
-    let mut looks: u8 = 0;
-    while looks < LOOKS {
+    for _ in 0..LOOKS {
         if left.is_empty() {
             return true;
         }
@@ -107,7 +100,6 @@ pub fn has_no_cycle(rows: [Keys; Key::COUNT], keys: Keys) -> bool
             at = highest(dependent);
             from[at.0 as usize] = k;
         }
-        looks += 1;
     }
     peels_away(rows, left)
 }

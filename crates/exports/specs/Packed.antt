@@ -4,9 +4,10 @@
 -- Assumes nothing.
 use Rattle.std.specs.Prelude.{ℕ, ◌+◌, ◌*◌}
 use Rattle.requests.specs.Requests.{number}
+use Rattle.names.specs.declared.Key.{Key}
+use Rattle.names.specs.declared.Locality.{Locality}
 use Rattle.finder.specs.declared.Found.{Found}
 use Rattle.requests.specs.declared.Told.{Told}
-use Rattle.machine.specs.declared.asks.FoundLocality.{FoundLocality}
 
 abbrev pub packed : ℕ → ℕ → ℕ → ℕ
 packed answer name touched = answer + 256 * name + 4294967296 * touched
@@ -15,8 +16,8 @@ abbrev pub packed_told : Told → ℕ
 packed_told t = packed (number t.answer) t.undone t.touched.0
 
 -- nothing is touched by a question
-abbrev pub packed_found : Found → ℕ
-packed_found f = packed (number f.answer) f.key.0 0
+abbrev pub packed_found : Found Key → ℕ
+packed_found f = packed (number f.answer) f.name.0 0
 
-abbrev pub packed_locality : FoundLocality → ℕ
-packed_locality f = packed (number f.answer) f.locality.0 0
+abbrev pub packed_locality : Found Locality → ℕ
+packed_locality f = packed (number f.answer) f.name.0 0

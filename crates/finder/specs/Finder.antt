@@ -49,12 +49,12 @@ module _ {R : Rules} (n : Net R) (k : ℕ) where
 
 -- ---- as the code gives it
 
-abbrev pub found : Answer → Key → Found
-found a k = record { answer = a; key = k }
+abbrev pub found : {N : Type 0} → Answer → N → Found N
+found a name = record { answer = a; name = name }
 
 -- "A refusal returns key 255"
-abbrev pub found_by : Answer → ℕ → Found
+abbrev pub found_by : Answer → ℕ → Found Key
 found_by a k = found a (key (pick (is_done a) k none))
 
-unfoldable pub found_of : Script → Images.Net → Key → Found
+unfoldable pub found_of : Script → Images.Net → Key → Found Key
 found_of s n k = found_by (answer_of (refusal (finder_checks (view s n) k.0))) (least_meeting (view s n) k.0)

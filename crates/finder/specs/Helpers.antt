@@ -1,13 +1,13 @@
 -- Which names are left. Document 01, "Helpers": "the least free key, and least absent locality from 8; 'none' exactly when none is left". A key freed
 -- by undoing is free: what counts is what the slot holds.
--- In order: `free_key`, and what a loop over the keys finds (`free_at_lem`, `free_end`); `absent_locality`, and what a loop from locality 8 on finds
--- (`absent_first`, `absent_not`, `absent_at`, `absent_end`). `Laws` says both of the net that the image stands for.
+-- In order: `free_key`, and what a search over the keys comes to (`free_first`); `absent_locality`, and what a search from locality 8 on comes to
+-- (`absent_first`, `absent_given`). `Laws` says both of the net that the image stands for.
 -- Assumes nothing.
-use Rattle.std.specs.Prelude.{ℕ, ◌<◌, ◌≤◌, ◌≡◌, refl, Bool, false, ◌&&◌, leb}
+use Rattle.std.specs.Prelude.{ℕ, ◌<◌, ◌≤◌, ◌≡◌, Bool, false, ◌&&◌, Option, unwrap_or}
 use Rattle.std.proofs.Math.Path.{ap}
-use Rattle.std.proofs.Common.{sym, lt-ltb, le-leb}
-use Rattle.std.proofs.Math.Bool.{true, not}
-use Rattle.laws.specs.Choice.{and_both}
+use Rattle.std.proofs.Common.{arith, lt-ltb, le-leb}
+use Rattle.std.proofs.Math.Bool.{not}
+use Rattle.order.specs.KeySets.{Set}
 use Rattle.names.specs.Names.{key_count, locality_count, first_made, none, key, locality}
 use Rattle.names.specs.Localities.{holds}
 use Rattle.names.specs.declared.Key.{Key}
@@ -16,7 +16,7 @@ use Rattle.names.specs.declared.Localities.{Localities}
 use Rattle.images.specs.Net.{is_free, slot_at}
 use Rattle.images.specs.declared.Net.{Net}
 use Rattle.rules.specs.Instance.{makeable, below_made}
-use Rattle.finder.specs.Least.{least_or_none, Least, given_at, given_missing}
+use Rattle.finder.specs.Least.{least_or_none, First, first_same, given_first}
 
 unfoldable pub free_key : Net → Key
 free_key n = key (least_or_none key_count (λ k. is_free (slot_at n k)))
@@ -25,13 +25,10 @@ module _ (n : Net) where
   abbrev free_at : ℕ → Bool
   free_at k = is_free (slot_at n k)
 
-  pub free_at_lem : (k : ℕ) → k < key_count → ((j : ℕ) → j < k → is_free (slot_at n j) ≡ false) → is_free (slot_at n k) ≡ true → key k ≡ free_key n
+  -- what a search over the keys comes to
+  pub free_first : (r : Option ℕ) → First 0 key_count free_at r → key (unwrap_or r none) ≡ free_key n
   unfolding free_key
-  free_at_lem k l before h = ap key (sym (given_at key_count free_at k (record { below = l; holds = h; before = before })))
-
-  pub free_end : ((j : ℕ) → j < key_count → is_free (slot_at n j) ≡ false) → key none ≡ free_key n
-  unfolding free_key
-  free_end h = ap key (sym (given_missing key_count free_at h))
+  free_first r h = ap key (given_first 0 key_count free_at (λ j l. absurd (omega (arith, l))) r h)
 
 -- a locality from 8 on that is not present
 abbrev pub is_absent : Localities → ℕ → Bool
@@ -45,20 +42,14 @@ module _ (present : Localities) where
   pub absent_first : (j : ℕ) → j < first_made → is_absent present j ≡ false
   absent_first j l = rw (below_made j l)
 
-  pub absent_not : (l : ℕ) → holds present (locality l) ≡ true → is_absent present l ≡ false
-  absent_not l h = rw h (and_no (makeable l))
-    where
-      and_no : (b : Bool) → (b && false) ≡ false
-      and_no true = refl
-      and_no false = refl
+  absent_from : (l : ℕ) → first_made ≤ l → l < locality_count → is_absent present l ≡ not (holds present (locality l))
+  absent_from l from below = rw (le-leb first_made l from, lt-ltb l locality_count below)
 
-  pub absent_at : (l : ℕ) → first_made ≤ l → l < locality_count → ((j : ℕ) → j < l → is_absent present j ≡ false) → holds present (locality l) ≡ false → locality l ≡ absent_locality present
+  -- what a search of those from 8 on comes to
+  pub absent_given : (r : Option ℕ) → First first_made locality_count (λ l. not (holds present (locality l))) r → locality (unwrap_or r none) ≡ absent_locality present
   unfolding absent_locality
-  absent_at l from below before h =
-      let may : makeable l ≡ true = and_both (leb first_made l) _ (le-leb first_made l from) (lt-ltb l locality_count below) in
-      let it : Least locality_count (is_absent present) l = record { below = below; holds = and_both (makeable l) _ may (ap not h); before = before } in
-      ap locality (sym (given_at locality_count (is_absent present) l it))
-
-  pub absent_end : ((j : ℕ) → j < locality_count → is_absent present j ≡ false) → locality none ≡ absent_locality present
-  unfolding absent_locality
-  absent_end h = ap locality (sym (given_missing locality_count (is_absent present) h))
+  absent_given r h =
+      let test : Set = λ l. not (holds present (locality l)) in
+      ap locality
+      (given_first first_made locality_count (is_absent present) absent_first r
+      (first_same first_made locality_count (is_absent present) test absent_from r h))

@@ -113,7 +113,7 @@ module _ {R : Rules} (n : Net R) (k : ℕ) where
 
 module _ (s : Script) (n : Images.Net) (k : Key) where
   -- a done finder's key is the least of a live tuple at the target that matches
-  pub found_least : is_done (found_of s n k).answer ≡ true → Finds (view s n) k.0 (found_of s n k).key.0
+  pub found_least : is_done (found_of s n k).answer ≡ true → Finds (view s n) k.0 (found_of s n k).name.0
   unfolding found_of
   found_least h =
       let zeroed = done_zero (refusal (finder_checks (view s n) k.0)) h in
@@ -129,7 +129,7 @@ module _ (s : Script) (n : Images.Net) (k : Key) where
       )
 
   -- "A refusal returns key 255"
-  pub refused_none : is_done (found_of s n k).answer ≡ false → (found_of s n k).key ≡ key none
+  pub refused_none : is_done (found_of s n k).answer ≡ false → (found_of s n k).name ≡ key none
   unfolding found_of
   refused_none h = ap (λ (b : Bool). key (pick b (least_meeting (view s n) k.0) none)) h
 
@@ -138,7 +138,7 @@ finds_there : {R : Rules} (rolled : R.Body → ℕ) (n : Net R) (r : A.Request) 
 unfolding A.tuple_there
 finds_there rolled n r h = and_both (is_live_tuple (n.slot r.used).kind) _ h.live (eq-eqb _ _ h.there)
 
-module _ (s : Script) (n : Images.Net) (r : Request) (done : is_done (found_of s n r.key).answer ≡ true) (used : r.used ≡ (found_of s n r.key).key) where
+module _ (s : Script) (n : Images.Net) (r : Request) (done : is_done (found_of s n r.key).answer ≡ true) (used : r.used ≡ (found_of s n r.key).name) where
   it : Finds (view s n) r.key.0 r.used.0
   it = subst (λ (t : Key). Finds (view s n) r.key.0 t.0) (sym used) (found_least s n r.key done)
 

@@ -1,14 +1,16 @@
 -- The least number below a count at which a test holds.
 -- In order: `least`, which is the count where there is none, and `least_or_none`, which is 255 there; what is said of the least (`Least`); the least, from
 -- what is said of it (`least_is`, `least_missing`), and what is said, from it (`least_split`); tests that agree (`least_same`); the same with 255
--- (`given_at`, `given_missing`; `given_least`, `given_none`; `given_same`).
+-- (`given_at`, `given_missing`; `given_least`, `given_none`; `given_same`); what a search from a number on comes to (`First`), and the least from it
+-- (`first_same`, `first_least`, `first_nowhere`, `given_first`).
 -- Assumes nothing.
-use Rattle.std.specs.Prelude.{ℕ, zero, suc, ◌<◌, ◌≤◌, ◌≡◌, refl, ◌↔◌, Bool, true, false, not, ltb}
-use Rattle.std.proofs.Common.{sym, ap, ◌∙◌, subst, arith, lt-ltb, le-ltb}
+use Rattle.std.specs.Prelude.{ℕ, zero, suc, ◌<◌, ◌≤◌, ◌≡◌, refl, ◌↔◌, Bool, true, false, not, ltb, Option, Some, None, MatchOption, unwrap_or}
+use Rattle.std.proofs.Common.{sym, ap, ◌∙◌, subst, arith, lt-ltb, le-ltb, ltb-true, ltb-false}
 use Rattle.std.proofs.lemmas.Bool.{not-true}
 use Rattle.laws.specs.Choice.{pick, cases, clash}
 use Rattle.laws.specs.Checks.{first_not, first_at, first_none}
-use Rattle.order.specs.KeySets.{Set, None}
+use Rattle.order.specs.KeySets as KeySets
+use Rattle.order.specs.KeySets.{Set}
 use Rattle.names.specs.Names.{none}
 
 abbrev pub least : ℕ → Set → ℕ
@@ -55,11 +57,11 @@ first_before (suc n) f (suc j) l =
 pub least_is : (count : ℕ) (f : Set) (k : ℕ) → Least count f k → least count f ≡ k
 least_is count f k h = first_at count (λ j. not (f j)) k h.below (λ j l. ap not (h.before j l)) (ap not h.holds)
 
-pub least_missing : (count : ℕ) (f : Set) → None count f → least count f ≡ count
+pub least_missing : (count : ℕ) (f : Set) → KeySets.None count f → least count f ≡ count
 least_missing count f h = first_none count (λ j. not (f j)) (λ j l. ap not (h j l))
 
 -- there is a least one, or none
-pub least_split {ℓ} : {A : Type ℓ} (count : ℕ) (f : Set) → (Least count f (least count f) → A) → (least count f ≡ count → None count f → A) → A
+pub least_split {ℓ} : {A : Type ℓ} (count : ℕ) (f : Set) → (Least count f (least count f) → A) → (least count f ≡ count → KeySets.None count f → A) → A
 least_split count f found missing =
     first_split count (λ j. not (f j))
     (λ l h.
@@ -88,8 +90,37 @@ least_same count f g same =
 pub given_at : (count : ℕ) (f : Set) (k : ℕ) → Least count f k → least_or_none count f ≡ k
 given_at count f k h = rw (least_is count f k h, lt-ltb k count h.below) refl
 
-pub given_missing : (count : ℕ) (f : Set) → None count f → least_or_none count f ≡ none
+pub given_missing : (count : ℕ) (f : Set) → KeySets.None count f → least_or_none count f ≡ none
 given_missing count f h = rw (least_missing count f h, le-ltb count count (omega arith)) refl
+
+-- what a search for the test from a number on comes to
+abbrev pub First : ℕ → ℕ → Set → Option ℕ → Type 0
+First from count f r =
+    MatchOption r ((k : ℕ) → from ≤ k → k < count → f k ≡ false)
+    (λ i. (from ≤ i) × (i < count) × (f i ≡ true) × ((k : ℕ) → from ≤ k → k < i → f k ≡ false))
+
+-- tests that agree from there on are searched alike
+pub first_same : (from count : ℕ) (f g : Set) → ((j : ℕ) → from ≤ j → j < count → f j ≡ g j) → (r : Option ℕ) → First from count g r → First from count f r
+first_same from count f g same (Some i) h =
+    (h.0, h.1, same i h.0 h.1 ∙ h.2, λ k l b. same k l (omega (arith, b, h.1)) ∙ h.3 k l b)
+first_same from count f g same None h = λ k l b. same k l b ∙ h k l b
+
+-- where those before need no look, it is the least
+module _ (from count : ℕ) (f : Set) (before : (j : ℕ) → j < from → f j ≡ false) where
+  pub first_least : (i : ℕ) → First from count f (Some i) → Least count f i
+  first_least i h =
+      record {
+        below = h.1;
+        holds = h.2;
+        before = λ j l. cases (ltb j from) (λ p. before j (ltb-true j from p)) (λ p. h.3 j (ltb-false j from p) l);
+      }
+
+  pub first_nowhere : First from count f None → KeySets.None count f
+  first_nowhere h j l = cases (ltb j from) (λ p. before j (ltb-true j from p)) (λ p. h j (ltb-false j from p) l)
+
+  pub given_first : (r : Option ℕ) → First from count f r → unwrap_or r none ≡ least_or_none count f
+  given_first (Some i) h = sym (given_at count f i (first_least i h))
+  given_first None h = sym (given_missing count f (first_nowhere h))
 
 module _ (count : ℕ) (few : count ≤ none) (f : Set) where
   -- what is given and is not none is the least
@@ -99,7 +130,7 @@ module _ (count : ℕ) (few : count ≤ none) (f : Set) where
       (λ h. subst (Least count f) (sym (given_at count f (least count f) h)) h)
       (λ e h. absurd (some (given_missing count f h)))
 
-  pub given_none : (least_or_none count f ≡ none) ↔ None count f
+  pub given_none : (least_or_none count f ≡ none) ↔ KeySets.None count f
   given_none = (
     λ e.
         least_split count f

@@ -1,26 +1,24 @@
 -- The finder's checks and its search as the code makes them, on the bytes of a node and of a net; and that they are those of `Finder`, of the net that
 -- the bytes are. Nothing here must be believed.
 -- In order: one turn of the search (`meets_at`, `meets_in`), the search (`searched`), and checks 5 to 9 with it (`found_at`); a list of checks by its parts
--- (`stops`, `goes_on`). Each is told by the answers to its tests, in their order: a turn (`no_live_tuple` to `matches`), the search (`seen`, `first_met`,
--- `none_met`), checks 5 to 8 (`no_template` to `searching`), checks 3 and 4 and the node (`no_key` to `at_node`), since the tests are the finder's (`by_slots`).
+-- (`stops`, `goes_on`). Each is told by the answers to its tests, in their order: the search (`turns`, `first_met`, `none_met`), checks 5 to 8
+-- (`no_template` to `searching`), checks 3 and 4 and the node (`no_key` to `at_node`), since the tests are the finder's (`by_slots`).
 -- Assumes nothing.
-use Rattle.std.specs.Prelude.{ℕ, ◌+◌, ◌-◌, ◌*◌, ◌<◌, ◌≡◌, Bool, true, false, ◌&&◌, List, [], ◌∷◌, ◌++◌, eqb, ltb, take, drop}
-use Rattle.std.proofs.Math.Path.{refl, ap, sym}
+use Rattle.std.specs.Prelude.{ℕ, ◌<◌, ◌≡◌, Bool, true, false, ◌&&◌, List, [], ◌∷◌, ◌++◌, eqb, ltb, Option, Some, None}
+use Rattle.std.proofs.Math.Path.{refl, ap, sym, subst}
 use Rattle.std.proofs.Common.{◌∙◌, arith}
 use Rattle.std.proofs.Math.ListN.{length, get_or-eq_default}
 use borrow.Author.Tests.{eq-eqb, ne_eqb, ltb-true, ltb-false}
 use Rattle.laws.specs.Choice.{pick, cases, or_left, or_right, ◌⇒◌}
 use Rattle.laws.specs.Lists.{length_tab}
-use Rattle.laws.specs.Parts.{part_size}
-use Rattle.order.specs.KeySets.{Set, None, any, any_of, any_not, any_ext}
+use Rattle.order.specs.KeySets.{Set, any, any_of, any_not, any_ext}
 use Rattle.names.specs.Names.{key_count, node_count, none, key, key_of, node_of, locality}
 use Rattle.names.specs.Reads.{key_read, key_bad, node_read, node_bad}
 use Rattle.names.specs.declared.Key.{Key}
-use Rattle.names.specs.declared.KeyRead.TheVariants as KeyRead
 use Rattle.names.specs.declared.Locality.{Locality}
 use Rattle.names.specs.declared.Localities.{Localities}
 use Rattle.names.specs.declared.Node.{Node}
-use Rattle.names.specs.declared.NodeRead.TheVariants as NodeRead
+use Rattle.images.specs.Head.{part_at}
 use Rattle.images.specs.Script.{action0, action_at}
 use Rattle.images.specs.Net.{slot_at, slot_with, free_slot}
 use Rattle.images.specs.Read.{action_of, script_of, slot_of, net_of}
@@ -30,21 +28,19 @@ use Rattle.images.specs.declared.Datum.{Datum}
 use Rattle.images.specs.declared.Script.{Script}
 use Rattle.images.specs.declared.Slot as Image
 use Rattle.images.specs.declared.Net as Images
-use Rattle.matching.specs.Match.{meets, match_of, matches_meets, differs_not}
-use Rattle.matching.specs.declared.Match.{Match}
+use Rattle.matching.specs.Match.{meets}
 use Rattle.nets.specs.Rules.{Rules, uses, aims}
 use Rattle.nets.specs.Net as N
 use Rattle.nets.specs.Net.{is_live}
 use Rattle.products.specs.Products.{is_out, is_eval, meets_tuple, target_by, target_there, ready_by, fits}
 use Rattle.products.specs.Acting.{readiness, ready_acts, unset_false, acts_target}
-use Rattle.products.specs.declared.Readiness.TheVariants as Readiness
 use Rattle.rules.specs.Instance.{act_of, rules_of}
 use Rattle.rules.specs.Acts.{uses_is, aims_is}
 use Rattle.rules.specs.View.{view, view_slot, view_with, view_present, live_is, tuple_is}
 use Rattle.requests.specs.Checks.{Check, check, refusal, Hold, Numbered}
 use Rattle.requests.specs.Requests.{answer_of}
 use Rattle.requests.specs.declared.Answer.TheVariants as Answer
-use Rattle.finder.specs.Least.{least, Least, least_is, least_same}
+use Rattle.finder.specs.Least.{least, Least, least_is, least_same, First, first_same, first_least, first_nowhere}
 use Rattle.finder.specs.Finder.{meeting, before_search, finder_checks, least_meeting, found, found_by, found_of}
 use Rattle.finder.specs.declared.Found.{Found}
 
@@ -57,7 +53,7 @@ abbrev pub meets_in : Action → List Datum → Locality → Images.Net → Set
 meets_in a vars l n j = meets_at a vars l (slot_at n j)
 
 -- "and 9 exactly when no such tuple exists"
-unfoldable pub searched : Set → Found
+unfoldable pub searched : Set → Found Key
 searched p = found_by (answer_of (refusal (check 9 (any key_count p) ∷ []))) (least key_count p)
 
 -- checks 5 to 9, of the process x at the node a that acts at l
@@ -66,7 +62,7 @@ tests a x l n =
     check 5 (meets_tuple a.kind) ∷ check 7 (ready_by a x.contents) ∷ check 8 (target_there a.kind n.present l) ∷
     check 9 (any key_count (meets_in a x.contents l n)) ∷ []
 
-unfoldable pub found_at : Action → Image.Slot → Images.Net → Found
+unfoldable pub found_at : Action → Image.Slot → Images.Net → Found Key
 found_at a x n =
     found_by (answer_of (refusal (tests a x (locality (target_by a x.contents)) n)))
     (least key_count (meets_in a x.contents (locality (target_by a x.contents)) n))
@@ -89,60 +85,35 @@ unfolding before_search
 before_numbered n k =
     ((λ z. omega (arith, z)), ((λ z. omega (arith, z)), ((λ z. omega (arith, z)), ((λ z. omega (arith, z)), ((λ z. omega (arith, z)), tt)))))
 
--- ---- a turn, with the slot t as it was read
-
-module _ (a : Action) (vars : List Datum) (l : Locality) {t u : Image.Slot} (is-t : t ≡ u) where
-  by_slot : {r : Bool} → r ≡ (eqb t.kind 3 && (eqb t.locality.0 l.0 && meets vars a t.count t.contents)) → r ≡ meets_at a vars l u
-  unfolding meets_at
-  by_slot e = e ∙ ap (meets_at a vars l) is-t
-
-  pub no_live_tuple : (t.kind ≡ 3 → ⊥) → false ≡ meets_at a vars l u
-  no_live_tuple h =
-      by_slot (λ i. sym (ne_eqb t.kind 3 h) i && (eqb t.locality.0 l.0 && meets vars a t.count t.contents))
-
-  module _ (live : t.kind ≡ 3) where
-    pub elsewhere : (t.locality.0 ≡ l.0 → ⊥) → false ≡ meets_at a vars l u
-    elsewhere h =
-        by_slot
-        (λ i.
-        sym (eq-eqb t.kind 3 live) i && (sym (ne_eqb t.locality.0 l.0 h) i && meets vars a t.count t.contents))
-
-    module _ (there : t.locality.0 ≡ l.0) {m : Match} (is_m : m ≡ match_of vars a u) where
-      of_slot : match_of vars a t ≡ m
-      of_slot = ap (match_of vars a) is-t ∙ sym is_m
-
-      by_match : {r : Bool} → meets vars a t.count t.contents ≡ r → r ≡ meets_at a vars l u
-      by_match e = by_slot (λ i. sym (eq-eqb t.kind 3 live) i && (sym (eq-eqb t.locality.0 l.0 there) i && sym e i))
-
-      pub differs : m ≡ Match.Differs → false ≡ meets_at a vars l u
-      differs e = by_match (differs_not vars a t (of_slot ∙ e))
-
-      pub matches : m ≡ Match.Matches → true ≡ meets_at a vars l u
-      matches e = by_match (matches_meets vars a t (of_slot ∙ e))
-
 -- ---- the search
 
--- a turn looks at the bytes that are lent for it
-pub seen : (a : Action) (vars : List Datum) (l : Locality) (b : List ℕ) (j : ℕ) → j < key_count → {r v : Bool}
-    → r ≡ meets_at a vars l (slot_of (take (16 + 56 * j + 56 - (16 + 56 * j)) (drop (16 + 56 * j) b))) → r ≡ v → meets_in a vars l (net_of b) j ≡ v
-seen a vars l b j below e h =
-    let its : slot_of (take (16 + 56 * j + 56 - (16 + 56 * j)) (drop (16 + 56 * j) b)) ≡ slot_at (net_of b) j = ap (λ (m : ℕ). slot_of (take m (drop (16 + 56 * j) b))) (part_size (16 + 56 * j) 56) ∙ slot_part b j below in
-    sym (ap (meets_at a vars l) its) ∙ sym e ∙ h
+-- a turn looks at the bytes of a slot
+pub turns : (a : Action) (vars : List Datum) (l : Locality) (b : List ℕ) (r : Option ℕ) → First 0 key_count (λ j. meets_at a vars l (slot_of (part_at 56 b j))) r
+    → First 0 key_count (meets_in a vars l (net_of b)) r
+turns a vars l b =
+    first_same 0 key_count (meets_in a vars l (net_of b)) (λ j. meets_at a vars l (slot_of (part_at 56 b j)))
+    (λ j from below. ap (meets_at a vars l) (sym (slot_part b j below)))
 
 module _ (p : Set) where
-  -- the loop came to a tuple that meets
-  pub first_met : (t : ℕ) → t < key_count → ((j : ℕ) → j < t → p j ≡ false) → p t ≡ true → found Answer.Done (key t) ≡ searched p
+  nothing_before : (j : ℕ) → j < 0 → p j ≡ false
+  nothing_before j l = absurd (omega (arith, l))
+
+  -- it came to a tuple that meets
+  pub first_met : {r : Option ℕ} {t : ℕ} → r ≡ Some t → First 0 key_count p r → found Answer.Done (key t) ≡ searched p
   unfolding searched refusal
-  first_met t below before there =
-      let it : Least key_count p t = record { below = below; holds = there; before = before } in
+  first_met {r} {t} e h =
+      let it : Least key_count p t = first_least 0 key_count p nothing_before t (subst (First 0 key_count p) e h) in
       sym
-      (ap (λ (b : Bool). found_by (answer_of (refusal (check 9 b ∷ []))) (least key_count p)) (any_of key_count p t below there) ∙
+      (ap (λ (b : Bool). found_by (answer_of (refusal (check 9 b ∷ []))) (least key_count p)) (any_of key_count p t it.below it.holds) ∙
       ap (λ (m : ℕ). found Answer.Done (key m)) (least_is key_count p t it))
 
   -- and to none
-  pub none_met : None key_count p → found Answer.NoTuple (key none) ≡ searched p
+  pub none_met : {r : Option ℕ} → r ≡ None → First 0 key_count p r → found Answer.NoTuple (key none) ≡ searched p
   unfolding searched refusal
-  none_met h = sym (ap (λ (b : Bool). found_by (answer_of (refusal (check 9 b ∷ []))) (least key_count p)) (any_not key_count p h))
+  none_met e h =
+      sym
+      (ap (λ (b : Bool). found_by (answer_of (refusal (check 9 b ∷ []))) (least key_count p))
+      (any_not key_count p (first_nowhere 0 key_count p nothing_before (subst (First 0 key_count p) e h))))
 
 -- ---- checks 5 to 8, with the node d as it was read
 
@@ -168,7 +139,7 @@ module _ {a d : Action} (is-a : d ≡ a) (x : Image.Slot) (n : Images.Net) where
       (least key_count p)
 
   module _ (m : meets_tuple d.kind ≡ true) where
-    pub unready : readiness a x.locality x.contents ≡ Readiness.Unset → found Answer.Unset (key none) ≡ found_at a x n
+    pub unready : readiness a x.locality x.contents ≡ None → found Answer.Unset (key none) ≡ found_at a x n
     unfolding found_at refusal
     unready e =
         λ i.
@@ -179,7 +150,7 @@ module _ {a d : Action} (is-a : d ≡ a) (x : Image.Slot) (n : Images.Net) where
         check 8 (target_there a.kind n.present target) ∷ check 9 (any key_count p) ∷ [])))
         (least key_count p)
 
-    module _ {l : Locality} (e : readiness a x.locality x.contents ≡ Readiness.Ready l) {present : Localities} (is-p : present ≡ n.present) where
+    module _ {l : Locality} (e : readiness a x.locality x.contents ≡ Some l) {present : Localities} (is-p : present ≡ n.present) where
       ready : true ≡ ready_by a x.contents
       ready = sym (ready_acts a x.locality x.contents l e).0
 
@@ -199,7 +170,7 @@ module _ {a d : Action} (is-a : d ≡ a) (x : Image.Slot) (n : Images.Net) where
           (answer_of (refusal (check 5 (template m i) ∷ check 7 (ready i) ∷ check 8 (there h i) ∷ check 9 (any key_count p) ∷ [])))
           (least key_count p)
 
-      pub searching : target_there d.kind present l ≡ true → {r : Found} → r ≡ searched (meets_in a x.contents l n) → r ≡ found_at a x n
+      pub searching : target_there d.kind present l ≡ true → {r : Found Key} → r ≡ searched (meets_in a x.contents l n) → r ≡ found_at a x n
       unfolding found_at searched refusal
       searching h is-r =
           is-r ∙ ap (λ (z : Locality). searched (meets_in a x.contents z n)) is_l ∙
@@ -257,16 +228,6 @@ module _ (s : Script) (n : Images.Net) (k : Key) where
 
 -- ---- checks 3 and 4, and the node
 
-pub key_below : (b : ℕ) (u : Key) → key_of b ≡ KeyRead.Key u → u.0 < key_count
-key_below b u e =
-    let it = key_read b u (sym e) in
-    ltb-true u.0 key_count (ap (λ (k : Key). ltb k.0 key_count) it.0 ∙ it.1)
-
-pub node_below : (b : ℕ) (m : Node) → node_of b ≡ NodeRead.Node m → m.0 < node_count
-node_below b m e =
-    let it = node_read b m (sym e) in
-    ltb-true m.0 node_count (ap (λ (k : Node). ltb k.0 node_count) it.0 ∙ it.1)
-
 module _ (b : List ℕ) (n : Images.Net) (k : Key) where
   abbrev s : Script
   s = script_of b
@@ -278,14 +239,14 @@ module _ (b : List ℕ) (n : Images.Net) (k : Key) where
   abbrev least_one : ℕ
   least_one = least key_count (meets_in (node s n k) (held s n k).contents (aim s n k) n)
 
-  pub no_key : key_of k.0 ≡ KeyRead.Bad → found Answer.BadRequest (key none) ≡ found_of s n k
+  pub no_key : key_of k.0 ≡ None → found Answer.BadRequest (key none) ≡ found_of s n k
   unfolding refusal
   no_key e =
       ap (λ (c : Bool). found_by (answer_of (refusal (check 3 c ∷ check 4 (eqb (held s n k).kind 1) ∷ rest))) least_one)
       (sym (key_bad k.0 (sym e))) ∙
       by_slots s n k
 
-  module _ {u : Key} (read : key_of k.0 ≡ KeyRead.Key u) {x : Image.Slot} (is_x : x ≡ slot_at n u.0) where
+  module _ {u : Key} (read : key_of k.0 ≡ Some u) {x : Image.Slot} (is_x : x ≡ slot_at n u.0) where
     is_key : true ≡ ltb k.0 key_count
     is_key = sym (key_read k.0 u (sym read)).1
 
@@ -311,7 +272,7 @@ module _ (b : List ℕ) (n : Images.Net) (k : Key) where
           by_slots s n k
 
       -- past the last node there is none, and what stands there meets nothing
-      nothing_there : node_of x.node.0 ≡ NodeRead.Bad → meets_tuple (node s n k).kind ≡ false
+      nothing_there : node_of x.node.0 ≡ None → meets_tuple (node s n k).kind ≡ false
       unfolding script_of
       nothing_there e =
           let past = ltb-false x.node.0 node_count (node_bad x.node.0 (sym e)) in
@@ -319,18 +280,17 @@ module _ (b : List ℕ) (n : Images.Net) (k : Key) where
           ap (λ (y : Image.Slot). meets_tuple (action_at s y.node.0).kind) (sym its_slot) ∙
           ap (λ (y : Action). meets_tuple y.kind) (get_or-eq_default s.nodes action0 {n = x.node.0} (omega (arith, many, past)))
 
-      pub no_node : node_of x.node.0 ≡ NodeRead.Bad → found Answer.WrongNode (key none) ≡ found_of s n k
+      pub no_node : node_of x.node.0 ≡ None → found Answer.WrongNode (key none) ≡ found_of s n k
       unfolding found_at
       no_node e = no_template {a = node s n k} refl (held s n k) n (nothing_there e) ∙ after
 
-      pub at_node : {m : Node} → node_of x.node.0 ≡ NodeRead.Node m → {r : Found}
-          → r ≡ found_at (action_of (take (16 + 32 * m.0 + 32 - (16 + 32 * m.0)) (drop (16 + 32 * m.0) b))) x n → r ≡ found_of s n k
+      pub at_node : {m : Node} → node_of x.node.0 ≡ Some m → {lent : List ℕ} → lent ≡ part_at 32 b m.0 → {r : Found Key}
+          → r ≡ found_at (action_of lent) x n → r ≡ found_of s n k
       unfolding found_at
-      at_node {m} e is-r =
+      at_node {m} e {lent} is_lent is-r =
           let it = node_read x.node.0 m (sym e) in
-          let lent : (i : ℕ) → i < node_count → action_of (take (16 + 32 * i + 32 - (16 + 32 * i)) (drop (16 + 32 * i) b)) ≡ action_at s i = λ i below. ap (λ (w : ℕ). action_of (take w (drop (16 + 32 * i) b))) (part_size (16 + 32 * i) 32) ∙ node_part b i below in
-          is-r ∙
-          ap (λ (y : Node). found_at (action_of (take (16 + 32 * y.0 + 32 - (16 + 32 * y.0)) (drop (16 + 32 * y.0) b))) x n) it.0 ∙
-          ap (λ (y : Action). found_at y x n) (lent x.node.0 (ltb-true x.node.0 node_count it.1)) ∙
+          is-r ∙ ap (λ (p : List ℕ). found_at (action_of p) x n) is_lent ∙
+          ap (λ (y : Node). found_at (action_of (part_at 32 b y.0)) x n) it.0 ∙
+          ap (λ (y : Action). found_at y x n) (node_part b x.node.0 (ltb-true x.node.0 node_count it.1)) ∙
           ap (λ (y : Image.Slot). found_at (action_at s y.node.0) y n) its_slot ∙
           after

@@ -3,140 +3,119 @@
 // Each case prints a line: the case, and whether what it makes has the form. A net that has it must be written as it was read.
 #![tactic(auto)]
 
-use images::Form;
-use images::net_image::{read_net, write_net};
-use images::script_image::read_script;
+ghost use Rattle.std.specs.Prelude.{◌≤◌, length};
+
+use images::net_image::{self, read_net, write_net};
+use images::script_image::{self, read_script};
 use std::io::{self, Read};
 use streams::read_full;
 
-const SCRIPT: usize = 2064;
+// One byte more than an image has, which stays 0.
+const SCRIPT_ROOM: usize = script_image::SIZE + 1;
 
-const NET: usize = 3600;
+const NET_ROOM: usize = net_image::SIZE + 1;
+
+const CASE: usize = 4;
+
+// More cases than a stream has.
+const CASES: usize = 65536;
+
+// ---- whether bytes have the form
 
 fn script_has_form(b: &[u8]) -> bool {
-    let r = read_script(b);
-    let form = r.form;
-    match form {
-        Form::Good => true,
-        Form::Bad => false,
-    }
+    read_script(b).is_some()
 }
 
 fn net_has_form(b: &[u8]) -> bool {
-    let r = read_net(b);
-    let form = r.form;
-    let Form::Good = form else {
+    let Some(net) = read_net(b) else {
         return false;
     };
-    let net = r.net;
-    let mut again = [0u8; NET];
-    write_net(net, &mut again);
-    b == again.as_slice()
+    let mut again = [0u8; net_image::SIZE];
+    write_net(net, &mut again).is_ok() && b == again.as_slice()
 }
+
+// ---- what a case makes of an image: its bytes, and one more
 
 // The image with one byte changed; it is changed back.
-fn changed_script(script: &mut [u8], at: usize, value: u8) -> bool {
-    if script.len() < SCRIPT {
+fn changed<F: Fn(&[u8]) -> bool>(image: &mut [u8], at: usize, value: u8, has_form: F) -> bool
+    requires { F.IsAlwaysCallable has_form }
+{
+    let Some(old) = image.get(at).copied() else {
         return false;
-    }
-    if script.len() <= at {
-        return false;
-    }
-    let old = script[at];
-    script[at] = value;
-    let good = script_has_form(&script[0..SCRIPT]);
-    script[at] = old;
-    good
-}
-
-fn changed_net(net: &mut [u8], at: usize, value: u8) -> bool {
-    if net.len() < NET {
-        return false;
-    }
-    if net.len() <= at {
-        return false;
-    }
-    let old = net[at];
-    net[at] = value;
-    let good = net_has_form(&net[0..NET]);
-    net[at] = old;
+    };
+    image[at] = value;
+    let good = has_form(&image[..image.len() - 1]);
+    image[at] = old;
     good
 }
 
 // The first so many bytes of it.
-fn cut_script(script: &[u8], length: usize) -> bool {
-    if script.len() < length {
+fn cut<F: Fn(&[u8]) -> bool>(image: &[u8], length: usize, has_form: F) -> bool
+    requires { F.IsAlwaysCallable has_form }
+{
+    let Some(part) = image.get(..length) else {
         return false;
-    }
-    script_has_form(&script[0..length])
+    };
+    has_form(part)
 }
 
-fn cut_net(net: &[u8], length: usize) -> bool {
-    if net.len() < length {
-        return false;
-    }
-    net_has_form(&net[0..length])
+#[derive(Drop)]
+struct Images {
+    script: [u8; SCRIPT_ROOM],
+    net: [u8; NET_ROOM],
 }
 
-// The first byte of a case may be any, so it is written as it is.
-fn print_case(rt: &impl Print, what: u8, at: usize, value: u8, good: bool) -> io::Result<()> {
-    rt.write_all(&[what])?;
-    if good {
-        println!(rt; " {at} {value} form")
-    } else {
-        println!(rt; " {at} {value} no form")
-    }
+// What is made, at which byte or of which length, and of which value.
+#[derive(Clone, Copy)]
+struct Case {
+    what: u8,
+    at: usize,
+    value: u8,
 }
 
-// The image at the front of the bytes; those after it stay 0.
-fn read_image(input: &mut impl Read, image: &mut [u8], size: usize) -> io::Result<()> {
-    if size <= image.len() {
-        read_full(input, &mut image[0..size])?;
+impl Case {
+    fn of_bytes(b: [u8; CASE]) -> Case {
+        Case {
+            what: b[0],
+            at: u16::from_le_bytes([b[1], b[2]]) as usize,
+            value: b[3],
+        }
     }
-    Ok(())
-}
 
-fn verdict(script: &mut [u8], net: &mut [u8], what: u8, at: usize, value: u8) -> bool {
-    if what == b'S' {
-        return changed_script(script, at, value);
+    // Whether what it makes has the form.
+    fn verdict(&self, images: &mut Images) -> bool {
+        match self.what {
+            b'S' => changed(&mut images.script, self.at, self.value, script_has_form),
+            b'N' => changed(&mut images.net, self.at, self.value, net_has_form),
+            b's' => cut(&images.script, self.at, script_has_form),
+            _ => cut(&images.net, self.at, net_has_form),
+        }
     }
-    if what == b'N' {
-        return changed_net(net, at, value);
-    }
-    if what == b's' {
-        return cut_script(script, at);
-    }
-    cut_net(net, at)
-}
 
-fn run_case(rt: &impl Print, script: &mut [u8], net: &mut [u8], case: &[u8]) -> io::Result<()> {
-    if case.len() < 4 {
-        return Ok(());
+    // The first byte of a case may be any, so it is written as it is.
+    fn print(&self, rt: &impl Print, good: bool) -> io::Result<()> {
+        rt.write_all(&[self.what])?;
+        let form = if good { "form" } else { "no form" };
+        println!(rt; " {} {} {form}", self.at, self.value)
     }
-    let what = case[0];
-    let at = laws::word_of(case[1], case[2], 0, 0) as usize;
-    let value = case[3];
-    let good = verdict(script, net, what, at, value);
-    print_case(rt, what, at, value, good)
 }
 
 fn main(rt: HostRuntime) -> io::Result<()> {
     let mut input = rt.stdin();
-    let mut script_space = [0u8; SCRIPT + 1];
-    let script: &mut [u8] = &mut script_space;
-    let mut net_space = [0u8; NET + 1];
-    let net: &mut [u8] = &mut net_space;
-    let mut case_space = [0u8; 4];
-    let case: &mut [u8] = &mut case_space;
-    read_image(&mut input, script, SCRIPT)?;
-    read_image(&mut input, net, NET)?;
-    let mut left: usize = 65536;
-    while 0 < left {
-        if read_full(&mut input, case)? < 4 {
+    let mut images = Images {
+        script: [0; SCRIPT_ROOM],
+        net: [0; NET_ROOM],
+    };
+    read_full(&mut input, &mut images.script[..script_image::SIZE])?;
+    read_full(&mut input, &mut images.net[..net_image::SIZE])?;
+    let mut bytes = [0u8; CASE];
+    for _ in 0..CASES {
+        if read_full(&mut input, &mut bytes)? < bytes.len() {
             return Ok(());
         }
-        run_case(&rt, script, net, case)?;
-        left -= 1;
+        let case = Case::of_bytes(bytes);
+        let good = case.verdict(&mut images);
+        case.print(&rt, good)?;
     }
     Ok(())
 }

@@ -1,5 +1,5 @@
 -- What is looked up in a net's bytes after some were written: a slot written at one key leaves the others and the present set, and is itself there.
--- In order: bytes of one slot (`slot_byte_lem`, `kind_byte`, `home_byte`, `used_byte`); a slot at another key (`slot_other`), the present set (`present_other`); the slot itself, by what it
+-- In order: a byte of a slot (`slot_byte_lem`), and what it says where there may be no such key (`kind_byte`, `home_byte`, `used_byte`); a slot at another key (`slot_other`), the present set (`present_other`); the slot itself, by what it
 -- carries (`slot_there`, `contents_there`, `refs_there`, `locality_there`).
 -- Assumes nothing.
 use Prim.Native.Nat.{ℕ, ◌+◌, ◌-◌, ◌*◌, ◌<◌, ◌≤◌}
@@ -11,7 +11,7 @@ use mathlib.Core.List.{List, [], ◌∷◌, ◌++◌, append_assoc}
 use Rattle.std.proofs.lemmas.List.{take-append-le, drop-append-le}
 use Rattle.std.proofs.Math.Seq.{drop-append-add}
 use borrow.Author.Tests.{ltb-true, ltb-false}
-use Rattle.laws.specs.Choice.{cases}
+use Rattle.laws.specs.Choice.{pick, cases}
 use Rattle.laws.specs.Lists.{tab, tab_of}
 use Rattle.laws.specs.Parts.{flat, put}
 use Rattle.laws.specs.Words.{number, bytes_of, word_at}
@@ -19,7 +19,7 @@ use Rattle.names.specs.Names.{key_count, key}
 use Rattle.names.specs.Localities.{localities}
 use Rattle.names.specs.declared.Key.{Key}
 use Rattle.images.specs.Head.{byte, part_at, pair_bytes}
-use Rattle.images.specs.Net.{datum0, datum_at, ref_at, slot_with, first_bytes, slot_bytes}
+use Rattle.images.specs.Net.{datum0, datum_at, ref_at, slot_with, free_slot, first_bytes, slot_bytes}
 use Rattle.images.specs.Read.{datum_of, slot_of, net_of}
 use Rattle.images.specs.InPlace.{slot_put, slot_part}
 use Rattle.images.specs.Changed.{part_there, below_four}
@@ -34,20 +34,23 @@ pub slot_byte_lem : (b : List ℕ) (k : Key) → ltb k.0 key_count ≡ true → 
 slot_byte_lem b k h i l =
     get_or-take 56 (drop (16 + 56 * k.0) b) i 0 l ∙ get_or-drop (16 + 56 * k.0) b i 0
 
-pub kind_byte : (b : List ℕ) (k : Key) → ltb k.0 key_count ≡ true → get_or b (16 + 56 * k.0 + 0) 0 ≡ (slot_with (net_of b) k).kind
-unfolding slot_of
-kind_byte b k h =
-    sym (slot_byte_lem b k h 0 (omega arith)) ∙ ap (λ (y : Slot). y.kind) (slot_part b k.0 (ltb-true k.0 64 h)) ∙ rw h refl
+-- a byte of the slot with a key, or 0 where there is no such key
+byte_with : (f : Slot → ℕ) (i : ℕ) → ((p : List ℕ) → byte p i ≡ f (slot_of p)) → 0 ≡ f free_slot → (b : List ℕ) (k : Key)
+    → pick (ltb k.0 key_count) (byte (part_at 56 b k.0) i) 0 ≡ f (slot_with (net_of b) k)
+byte_with f i here free b k =
+    cases (ltb k.0 key_count) (λ h. rw h (here (part_at 56 b k.0) ∙ ap f (slot_part b k.0 (ltb-true k.0 64 h)))) (λ h. rw h free)
 
-pub home_byte : (b : List ℕ) (k : Key) → ltb k.0 key_count ≡ true → get_or b (16 + 56 * k.0 + 1) 0 ≡ (slot_with (net_of b) k).locality.0
+pub kind_byte : (b : List ℕ) (k : Key) → pick (ltb k.0 key_count) (byte (part_at 56 b k.0) 0) 0 ≡ (slot_with (net_of b) k).kind
 unfolding slot_of
-home_byte b k h =
-    sym (slot_byte_lem b k h 1 (omega arith)) ∙ ap (λ (y : Slot). y.locality.0) (slot_part b k.0 (ltb-true k.0 64 h)) ∙ rw h refl
+kind_byte = byte_with (λ y. y.kind) 0 (λ p. refl) refl
 
-pub used_byte : (b : List ℕ) (k : Key) → ltb k.0 key_count ≡ true → get_or b (16 + 56 * k.0 + 5) 0 ≡ (slot_with (net_of b) k).used.0
+pub home_byte : (b : List ℕ) (k : Key) → pick (ltb k.0 key_count) (byte (part_at 56 b k.0) 1) 0 ≡ (slot_with (net_of b) k).locality.0
 unfolding slot_of
-used_byte b k h =
-    sym (slot_byte_lem b k h 5 (omega arith)) ∙ ap (λ (y : Slot). y.used.0) (slot_part b k.0 (ltb-true k.0 64 h)) ∙ rw h refl
+home_byte = byte_with (λ y. y.locality.0) 1 (λ p. refl) refl
+
+pub used_byte : (b : List ℕ) (k : Key) → pick (ltb k.0 key_count) (byte (part_at 56 b k.0) 5) 0 ≡ (slot_with (net_of b) k).used.0
+unfolding slot_of
+used_byte = byte_with (λ y. y.used.0) 5 (λ p. refl) refl
 
 -- ---- parts beside one that was written
 

@@ -1,6 +1,6 @@
 -- The definitions run: the bytes of document 01's script T and net A, written out by hand, read as they should. Shown by computing.
 -- Assumes nothing.
-use Rattle.std.specs.Prelude.{ℕ, ◌-◌, ◌≡◌, refl, List, [], ◌∷◌, ◌++◌, length, replicate}
+use Rattle.std.specs.Prelude.{ℕ, ◌-◌, ◌≡◌, refl, List, [], ◌∷◌, ◌++◌, length, replicate, Some}
 use Rattle.laws.specs.Lists.{tab}
 use Rattle.laws.specs.Checks.{all}
 use Rattle.laws.specs.Parts.{flat}
@@ -10,7 +10,7 @@ use Rattle.names.specs.Localities.{localities}
 use Rattle.images.specs.Head.{head_formed, rest_zero}
 use Rattle.images.specs.Script.{field0, node_in_place, target_in_place, reference_in_place, field_in_range, count_in_place, field_in_place, fields_in_place, same_formal, fresh_formal, formals_distinct, places_in_row, fields_in_row, action_in_range}
 use Rattle.images.specs.Net.{datum0, free_slot, is_unset, is_set, is_datum, variables_in_range, field_or_blank, data_fill, made_are, refs_are, made_in_range, refs_in_range, free_in_range, process_in_range, tuple_in_range, slot_in_range}
-use Rattle.images.specs.Read.{action_of, action_formed, nodes_formed, script_of, script_formed, nil_action, good_script, read_script, slot_of, slot_formed, slots_formed, net_of, net_formed, good_net, read_net}
+use Rattle.images.specs.Read.{action_of, action_formed, nodes_formed, script_of, script_formed, nil_action, read_script, slot_of, slot_formed, slots_formed, net_of, net_formed, read_net}
 use Rattle.images.specs.declared.Field.{Field}
 use Rattle.images.specs.declared.Action.{Action}
 use Rattle.images.specs.declared.Script.{Script}
@@ -90,7 +90,7 @@ script_t =
           replicate 54 nil_action;
     }
 
-pub reads-T : read_script bytes_t ≡ good_script script_t
+pub reads-T : read_script bytes_t ≡ Some script_t
 unfolding bytes_t flat read_script script_formed head_formed word_at number nodes_formed action_formed rest_zero script_of action_of tab all action_in_range places_in_row fields_in_row node_in_place target_in_place reference_in_place field_in_range count_in_place field_in_place fields_in_place same_formal fresh_formal formals_distinct
 reads-T = refl
 
@@ -138,6 +138,6 @@ tuple_a =
 abbrev pub net_a : Net
 net_a = record { present = localities 1; slots = process_a ∷ tuple_a ∷ replicate 62 free_slot }
 
-pub reads-A : read_net bytes_a ≡ good_net net_a
+pub reads-A : read_net bytes_a ≡ Some net_a
 unfolding bytes_a read_net net_formed head_formed word_at number slots_formed slot_formed rest_zero net_of slot_of tab all slot_in_range free_in_range process_in_range tuple_in_range made_are made_in_range refs_are refs_in_range variables_in_range data_fill field_or_blank is_datum is_set is_unset
 reads-A = refl

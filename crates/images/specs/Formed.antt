@@ -1,6 +1,6 @@
 -- The form of a part, as tests on its bytes where they stand: what the code asks of the 56 bytes of a slot is what is asked of the slot.
--- In order: variables and fields (`variables_here`, `data_here`), references (`refs_here`, `refers_here`), a process (`process_here`)
--- and a tuple (`tuple_here`); a node that is nil, known by its eight words (`nil_word`, `nil_later`, `nil_here`), and a free slot, known by its
+-- In order: variables and fields (`variables_here`, `data_here`), references (`refers_here`, `refs_all`, `refers_all`), what was made
+-- (`makes_all`), a process (`process_here`) and a tuple (`tuple_here`); a node that is nil, known by its eight words (`nil_word`, `nil_later`, `nil_here`), and a free slot, known by its
 -- thirteen (`words_here`).
 -- Assumes nothing.
 use Rattle.std.specs.Prelude.{ℕ, zero, suc, ◌+◌, ◌*◌, ◌<◌, ◌≤◌, ◌≡◌, Bool, ◌&&◌, ltb, length, get_or, take, drop}
@@ -10,12 +10,13 @@ use mathlib.Core.List.{List}
 use Rattle.std.proofs.Math.Bool.{false, true, and-true}
 use Rattle.std.proofs.Math.Dec.{eqb, leb}
 use borrow.Author.Tests.{le-leb, lt-leb, ne_eqb, eq-eqb, eqb-true, le-ltb, ltb-true, ltb-false}
+use Rattle.std.specs.List.{list_all}
 use Rattle.laws.specs.Choice.{pick, cases, agree, and_left, and_right}
 use Rattle.laws.specs.Checks.{all, all_of, all_at, all_ext}
-use Rattle.laws.specs.Lists.{tab, tab_ext, get_d_tab}
+use Rattle.laws.specs.Lists.{tab, tab_ext, get_d_tab, tab_part}
 use Rattle.laws.specs.Parts.{flat, flat_parts}
 use Rattle.laws.specs.Words.{Bytes, word, bytes_of, word_at, number, word_at_bytes, word_word_at}
-use Rattle.names.specs.Names.{none, key, locality, node, is_key_or_none, is_locality, is_node}
+use Rattle.names.specs.Names.{key_count, none, below_or_none, locality, node, is_locality, is_node}
 use Rattle.images.specs.Head.{byte, pair_bytes, rest_zero}
 use Rattle.images.specs.Script.{action_bytes, node_in_place, target_in_place, reference_in_place, is_blank, count_in_place, field_in_place, fields_in_place, same_formal, fresh_formal, formals_distinct, places_in_row, fields_in_row, action_in_range}
 use Rattle.images.specs.Net.{datum0, free_slot, slot_bytes, is_unset, is_datum, field_or_blank, variables_in_range, data_fill, made_are, refs_are, refs_in_range, free_in_range, process_in_range, tuple_in_range}
@@ -34,15 +35,24 @@ module _ (p : List ℕ) where
   unfolding data_fill
   data_here count = all_ext 8 _ _ (λ j l. ap (field_or_blank count j) (datum_here j l))
 
-  pub refs_here : (is_key_or_none (key (byte p 48)) && (is_key_or_none (key (byte p 49)) && (is_key_or_none (key (byte p 50)) && is_key_or_none (key (byte p 51))))) ≡ refs_in_range (slot_of p).refs
-  unfolding refs_in_range slot_of tab all
-  refs_here =
-      ap (λ (b : Bool). is_key_or_none (key (byte p 48)) && (is_key_or_none (key (byte p 49)) && (is_key_or_none (key (byte p 50)) && b)))
-      (sym (and-true (is_key_or_none (key (byte p 51)))))
-
   pub refers_here : (b : ℕ) → (eqb (byte p 48) b && (eqb (byte p 49) b && (eqb (byte p 50) b && eqb (byte p 51) b))) ≡ refs_are b (slot_of p).refs
   unfolding refs_are slot_of tab all
   refers_here b = ap (λ (t : Bool). eqb (byte p 48) b && (eqb (byte p 49) b && (eqb (byte p 50) b && t))) (sym (and-true (eqb (byte p 51) b)))
+
+  -- four bytes of a slot, one after the other: its references, and what it made and used
+  pub refs_all : length p ≡ 56 → list_all (below_or_none key_count) (take 4 (drop 48 p)) ≡ refs_in_range (slot_of p).refs
+  unfolding refs_in_range slot_of tab all
+  refs_all e = ap (list_all (below_or_none key_count)) (sym (tab_part 4 48 p 0 (omega (arith, e))))
+
+  pub refers_all : length p ≡ 56 → (b : ℕ) → list_all (λ x. eqb x b) (take 4 (drop 48 p)) ≡ refs_are b (slot_of p).refs
+  unfolding refs_are slot_of tab all
+  refers_all e b = ap (list_all (λ x. eqb x b)) (sym (tab_part 4 48 p 0 (omega (arith, e))))
+
+  pub makes_all : length p ≡ 56 → (b : ℕ) → list_all (λ x. eqb x b) (take 4 (drop 3 p)) ≡ made_are b (slot_of p)
+  unfolding made_are slot_of tab
+  makes_all e b =
+      ap (list_all (λ x. eqb x b)) (sym (tab_part 4 3 p 0 (omega (arith, e)))) ∙
+      ap (λ (t : Bool). eqb (byte p 3) b && (eqb (byte p 4) b && (eqb (byte p 5) b && t))) (and-true (eqb (byte p 6) b))
 
   free_here : byte p 0 ≡ 0
       → (eqb (byte p 1) 0 && (eqb (byte p 2) 0 && (made_are 0 (slot_of p) && (refs_are 0 (slot_of p).refs && data_fill 0 (slot_of p).contents)))) ≡ free_in_range (slot_of p)

@@ -1,7 +1,7 @@
 -- The net image: the bytes of a net, and which nets are in range. Document 01, "Net, 3,600 bytes".
 -- Which of the nets in range are accepted is another matter, and not said here.
 -- Assumes nothing.
-use Rattle.std.specs.Prelude.{ℕ, List, [], ◌∷◌, ◌++◌, Bool, true, ◌&&◌, eqb, ltb, leb, length, get_or, replicate}
+use Rattle.std.specs.Prelude.{ℕ, List, [], ◌∷◌, ◌++◌, Bool, true, ◌&&◌, eqb, ltb, leb, length, get_or, replicate, Result, Ok, Err}
 use Rattle.laws.specs.Choice.{pick}
 use Rattle.laws.specs.Lists.{tab}
 use Rattle.laws.specs.Checks.{all}
@@ -13,7 +13,7 @@ use Rattle.images.specs.Head.{head_bytes, pair_bytes}
 use Rattle.images.specs.declared.Datum.{Datum}
 use Rattle.images.specs.declared.Slot.{Slot}
 use Rattle.images.specs.declared.Net.{Net}
-use Rattle.images.specs.declared.Written.{Written}
+use Rattle.images.specs.declared.WrongLength.{WrongLength}
 
 -- ---- what stands where nothing does: zeros, and empty arrays
 abbrev pub datum0 : Datum
@@ -79,8 +79,11 @@ net_bytes n = head_bytes 78 n.present.0 ++ flat (tab key_count (λ i. slot_bytes
 unfoldable pub net_written : Net → List ℕ → List ℕ
 net_written n d = pick (eqb (length d) 3600) (net_bytes n) d
 
-unfoldable pub written_into : List ℕ → Written
-written_into d = pick (eqb (length d) 3600) Written.Done Written.WrongLength
+abbrev pub wrong_length : WrongLength
+wrong_length = record {}
+
+unfoldable pub written_into : List ℕ → Result Unit WrongLength
+written_into d = pick (eqb (length d) 3600) (Ok tt) (Err wrong_length)
 
 -- ---- which nets are in range
 -- tags: "0 unset, 1 value, 2 locality"; "unset has number 0, and a locality number is below 32"

@@ -1,6 +1,6 @@
 -- Reading: an image taken apart, and whether it has the form. Nobody has to believe these: Round proves that they undo writing.
 -- Assumes nothing.
-use Rattle.std.specs.Prelude.{ℕ, ◌+◌, ◌*◌, List, Bool, ◌&&◌, eqb, length, replicate}
+use Rattle.std.specs.Prelude.{ℕ, ◌+◌, ◌*◌, List, Bool, ◌&&◌, eqb, length, replicate, Option, Some, None}
 use Rattle.laws.specs.Choice.{pick}
 use Rattle.laws.specs.Lists.{tab}
 use Rattle.laws.specs.Checks.{all}
@@ -10,16 +10,13 @@ use Rattle.names.specs.declared.Node.{Node}
 use Rattle.names.specs.Localities.{localities}
 use Rattle.images.specs.Head.{byte, part_at, head_formed, rest_zero}
 use Rattle.images.specs.Script.{action_in_range, field0, action_at}
-use Rattle.images.specs.Net.{is_tuple, slot_in_range, empty_net}
+use Rattle.images.specs.Net.{is_tuple, slot_in_range}
 use Rattle.images.specs.declared.Field.{Field}
 use Rattle.images.specs.declared.Action.{Action}
 use Rattle.images.specs.declared.Script.{Script}
 use Rattle.images.specs.declared.Datum.{Datum}
 use Rattle.images.specs.declared.Slot.{Slot}
 use Rattle.images.specs.declared.Net.{Net}
-use Rattle.images.specs.declared.Form.{Form}
-use Rattle.images.specs.declared.ScriptRead.{ScriptRead}
-use Rattle.images.specs.declared.NetRead.{NetRead}
 
 -- ---- a node
 abbrev pub field_of : List ℕ → ℕ → Field
@@ -55,19 +52,16 @@ abbrev pub nil_action : Action
 nil_action =
     record { kind = 0; next = node 0; other = node 0; target = field0; reference = reference 255; count = 0; fields = replicate 4 field0 }
 
-abbrev pub good_script : Script → ScriptRead
-good_script s = record { form = Form.Good; script = s }
-
 -- the node of this number; where there is no such node, nil
 abbrev pub node_with : Script → Node → Action
 node_with s k = pick (is_node k) (action_at s k.0) nil_action
 
--- beside a refusal stands a script of nil nodes
-abbrev pub bad_script : ScriptRead
-bad_script = record { form = Form.Bad; script = record { nodes = replicate node_count nil_action } }
+-- a script of nil nodes
+abbrev pub nil_script : Script
+nil_script = record { nodes = replicate node_count nil_action }
 
-unfoldable pub read_script : List ℕ → ScriptRead
-read_script b = pick (script_formed b) (good_script (script_of b)) bad_script
+unfoldable pub read_script : List ℕ → Option Script
+read_script b = pick (script_formed b) (Some (script_of b)) None
 
 -- ---- a slot
 abbrev pub datum_of : List ℕ → ℕ → Datum
@@ -101,12 +95,5 @@ slots_formed b = all key_count (λ i. slot_formed (part_at 56 b i))
 unfoldable pub net_formed : List ℕ → Bool
 net_formed b = eqb (length b) 3600 && (head_formed 78 b && slots_formed b)
 
-abbrev pub good_net : Net → NetRead
-good_net n = record { form = Form.Good; net = n }
-
--- beside a refusal stands the empty net
-abbrev pub bad_net : NetRead
-bad_net = record { form = Form.Bad; net = empty_net }
-
-unfoldable pub read_net : List ℕ → NetRead
-read_net b = pick (net_formed b) (good_net (net_of b)) bad_net
+unfoldable pub read_net : List ℕ → Option Net
+read_net b = pick (net_formed b) (Some (net_of b)) None

@@ -10,6 +10,8 @@ use Rattle.images.specs.Head.{head_bytes, pair_bytes}
 use Rattle.images.specs.declared.Field.{Field}
 use Rattle.images.specs.declared.Action.{Action}
 use Rattle.images.specs.declared.Script.{Script}
+use Rattle.images.specs.declared.TargetUse.{TargetUse}
+use Rattle.images.specs.declared.ReferenceUse.{ReferenceUse}
 use Rattle.images.specs.declared.Row.{Row}
 
 -- ---- how many kinds of node there are, and how many fields a node may have
@@ -52,62 +54,50 @@ script_bytes s = head_bytes 83 0 ++ flat (tab node_count (λ i. action_bytes (ac
 -- ---- which scripts are in range
 -- "A table of eight rows says which places each kind uses." A row: whether next and other are used; how the target is; how the
 -- reference is; the highest field tag, 0 where there are no fields.
-abbrev pub row : Bool → Bool → ℕ → ℕ → ℕ → Row
+abbrev pub row : Bool → Bool → TargetUse → ReferenceUse → ℕ → Row
 row n o t r f = record { next = n; other = o; target = t; reference = r; fields = f }
 
-abbrev pub unused : ℕ
-unused = 0
-
--- a target that is a literal locality or a variable; one that is a variable which the node binds
-abbrev pub given : ℕ
-given = 1
-
-abbrev pub bound : ℕ
-bound = 2
-
--- a reference that may be 255; one that may not
-abbrev pub optional : ℕ
-optional = 1
-
-abbrev pub needed : ℕ
-needed = 2
+abbrev pub no_row : Row
+no_row = row false false TargetUse.Unused ReferenceUse.Unused 0
 
 abbrev pub rows : List Row
 rows =
     -- nil
-    row false false unused unused 0 ∷
+    row false false TargetUse.Unused ReferenceUse.Unused 0 ∷
     -- out
-    row true false given optional 3 ∷
+    row true false TargetUse.Given ReferenceUse.Optional 3 ∷
     -- in
-    row true false given optional 5 ∷
+    row true false TargetUse.Given ReferenceUse.Optional 5 ∷
     -- read
-    row true false given optional 5 ∷
+    row true false TargetUse.Given ReferenceUse.Optional 5 ∷
     -- newloc
-    row true false bound optional 0 ∷
+    row true false TargetUse.Bound ReferenceUse.Optional 0 ∷
     -- eval
-    row true true given optional 0 ∷
+    row true true TargetUse.Given ReferenceUse.Optional 0 ∷
     -- split
-    row true true unused unused 0 ∷
+    row true true TargetUse.Unused ReferenceUse.Unused 0 ∷
     -- roll
-    row false false unused needed 0 ∷ []
+    row false false TargetUse.Unused ReferenceUse.Needed 0 ∷ []
 
 abbrev pub row_of : ℕ → Row
-row_of k = get_or rows k (row false false unused unused 0)
+row_of k = get_or rows k no_row
 
 -- "A place not used is 0."
 unfoldable pub node_in_place : Bool → ℕ → Bool
 node_in_place used n = pick used (ltb n node_count) (eqb n 0)
 
--- "target tag (2 literal locality, 3 variable)"; "A literal locality is 0..7", and so is a variable
-unfoldable pub target_in_place : ℕ → Field → Bool
-target_in_place need f =
-    pick (eqb need unused) (eqb f.tag 0 && eqb f.number 0)
-    (pick (eqb need given) (leb 2 f.tag && (leb f.tag 3 && ltb f.number 8)) (eqb f.tag 3 && ltb f.number 8))
+-- "target tag (2 literal locality, 3 variable)"; "A literal locality is 0..7", and so is a variable. A target that the node binds is a
+-- variable
+unfoldable pub target_in_place : TargetUse → Field → Bool
+target_in_place TargetUse.Unused f = eqb f.tag 0 && eqb f.number 0
+target_in_place TargetUse.Given f = leb 2 f.tag && (leb f.tag 3 && ltb f.number 8)
+target_in_place TargetUse.Bound f = eqb f.tag 3 && ltb f.number 8
 
 -- "The reference may be 255 except in roll"; not used, it is 255
-unfoldable pub reference_in_place : ℕ → ℕ → Bool
-reference_in_place need r =
-    pick (eqb need unused) (eqb r none) (pick (eqb need optional) (below_or_none reference_count r) (ltb r reference_count))
+unfoldable pub reference_in_place : ReferenceUse → ℕ → Bool
+reference_in_place ReferenceUse.Unused r = eqb r none
+reference_in_place ReferenceUse.Optional r = below_or_none reference_count r
+reference_in_place ReferenceUse.Needed r = ltb r reference_count
 
 -- "Field tags: 1 value, 2 literal locality, 3 variable; in and read also 4 formal for a value, 5 formal for a locality."
 unfoldable pub field_in_range : ℕ → Field → Bool

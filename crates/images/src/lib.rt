@@ -8,17 +8,9 @@ pub mod script_image;
 
 use names::{Key, Localities, Locality, Node, Reference, Variable};
 
-// Whether a byte string is an image.
-#[derive(Clone, Copy)]
-pub enum Form {
-    // It is the writing of a value in range.
-    Good,
-    // It is the writing of none.
-    Bad,
-}
-
 // A field of a node: a value, a literal locality, a variable or a formal, by its tag.
-#[derive(Clone, Copy)]
+// Its tag is a number with a name, and no enum: `action_of` takes any byte for a tag, and `field_in_range` answers on every one.
+#[derive(Clone, Copy, PartialEq, Eq)]
 pub struct Field {
     pub tag: u8,
     pub number: u32,
@@ -43,7 +35,8 @@ impl Field {
 }
 
 // A node of the script, as what it does.
-#[derive(Clone, Copy)]
+// Its kind is a number with a name, and no enum: `action_of` takes any byte for a kind, and `action_in_range` answers on every one.
+#[derive(Clone, Copy, PartialEq, Eq)]
 pub struct Action {
     pub kind: u8,
     pub next: Node,
@@ -79,11 +72,24 @@ pub struct Script {
     pub nodes: [Action; Node::COUNT],
 }
 
-// What reading a script answers; beside a refusal stands a script of nil nodes.
-#[derive(Clone, Copy)]
-pub struct ScriptRead {
-    pub form: Form,
-    pub script: Script,
+// How a kind of node uses its target.
+#[derive(Clone, Copy, PartialEq, Eq)]
+pub enum TargetUse {
+    Unused,
+    // A literal locality or a variable.
+    Given,
+    // A variable, which the node binds.
+    Bound,
+}
+
+// How a kind of node uses its reference.
+#[derive(Clone, Copy, PartialEq, Eq)]
+pub enum ReferenceUse {
+    Unused,
+    // It may be none.
+    Optional,
+    // It may not.
+    Needed,
 }
 
 // Which places a kind of node uses: document 01's table of eight rows.
@@ -91,28 +97,16 @@ pub struct ScriptRead {
 pub struct Row {
     pub next: bool,
     pub other: bool,
-    // Row::UNUSED, Row::GIVEN or Row::BOUND.
-    pub target: u8,
-    // Row::UNUSED, Row::OPTIONAL or Row::NEEDED.
-    pub reference: u8,
+    pub target: TargetUse,
+    pub reference: ReferenceUse,
     // The highest field tag; 0 where there are no fields.
     pub fields: u8,
 }
 
-impl Row {
-    pub const UNUSED: u8 = 0;
-    // A target that is a literal locality or a variable.
-    pub const GIVEN: u8 = 1;
-    // A target that is a variable which the node binds.
-    pub const BOUND: u8 = 2;
-    // A reference that may be none.
-    pub const OPTIONAL: u8 = 1;
-    // A reference that may not.
-    pub const NEEDED: u8 = 2;
-}
-
 // A variable of a process or a field of a tuple: unset, a value or a locality, by its tag.
-#[derive(Clone, Copy)]
+// Its tag is a number with a name, and no enum: `slot_of` takes any byte for a tag, and `is_datum` answers on every one. It looks like a field, and is
+// a type of its own: their tags mean different things, and must not mix.
+#[derive(Clone, Copy, PartialEq, Eq)]
 pub struct Datum {
     pub tag: u8,
     pub number: u32,
@@ -127,7 +121,8 @@ impl Datum {
 }
 
 // A record of the net: free, a process or a tuple, by its kind.
-#[derive(Clone, Copy)]
+// Its kind is a number with a name, and no enum: `slot_of` takes any byte for a kind, and `is_free` answers on those above 4.
+#[derive(Clone, Copy, PartialEq, Eq)]
 pub struct Slot {
     pub kind: u8,
     pub locality: Locality,
@@ -165,17 +160,6 @@ pub struct Net {
     pub slots: [Slot; Key::COUNT],
 }
 
-// What reading a net answers; beside a refusal stands the empty net.
-#[derive(Clone, Copy)]
-pub struct NetRead {
-    pub form: Form,
-    pub net: Net,
-}
-
-// Whether a net was written.
-#[derive(Clone, Copy)]
-pub enum Written {
-    Done,
-    // The lent bytes are not as many as an image has, and stay as they were.
-    WrongLength,
-}
+// Why a net is not written: the lent bytes are not as many as an image has.
+#[derive(Clone, Copy, PartialEq, Eq)]
+pub struct WrongLength;

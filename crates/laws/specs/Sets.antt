@@ -4,12 +4,12 @@
 -- members are one (`same_members`); the empty set.
 -- Not here: `bit_or` and `bit_and` by steps, shifts and bounds (`lib.Bits`), powers of two (`lib.Pow`).
 -- Assumes nothing.
-use Rattle.std.specs.Prelude.{◌≡◌, refl, Bool, true, false, ◌&&◌, ◌||◌, ◌≢◌, ℕ, zero, suc, ◌+◌, ◌-◌, ◌*◌, ◌/◌, ◌%◌, ◌^◌, ◌<◌, min, max, eqb, ltb}
+use Rattle.std.specs.Prelude.{◌≡◌, refl, Bool, true, false, ◌&&◌, ◌||◌, ◌≢◌, ℕ, zero, suc, ◌+◌, ◌-◌, ◌*◌, ◌/◌, ◌%◌, ◌^◌, ◌<◌, ◌≤◌, min, max, eqb, ltb}
 use Rattle.std.proofs.Common.{ap, sym, ◌∙◌, one-mul, mod-eq_of_lt, div-one, pow-suc, le_of_suc-le-suc, not-suc-le-zero, mul_comm, arith, pow_pos, pow-add, eqb-true, eq-eqb, ltb-true, ltb-false}
 use Rattle.std.proofs.Math.Nat.{div_self, div-eq_of_lt, zero-div, max-zero, min-zero, div-div-eq-div-mul}
 use Rattle.std.proofs.Math.Arith.{digits_mod, lt_of_le-ne}
 use Rattle.std.specs.Int.Bits.{bit_or, bit_and, or_step, and_step, and_lt}
-use Rattle.std.proofs.lemmas.Nat.{or_shr, and_shr, or_lt, and_mask, shl-shr}
+use Rattle.std.proofs.lemmas.Nat.{or_shr, and_shr, or_lt, and_le_l, and_mask, shl-shr}
 use Rattle.std.proofs.Math.Pow.{pow-lt}
 use Rattle.std.proofs.lemmas.Bool.{eqb-false}
 use Rattle.laws.specs.Choice.{cases}
@@ -145,6 +145,18 @@ member_excluding_other w s n m h l d =
     ap (λ (x : ℕ). eqb x 1)
     (bit_and_lem s _ m ∙
     ap (min (bit s m)) (bit_not w (2 ^ n) m l (pow-lt h) ∙ ap (λ (y : ℕ). 1 - y) (bit_pow_other n m d)) ∙ e)
+
+-- the same in words of more bits than s has
+pub excluding_wide : (v w s n : ℕ) → w ≤ v → n < w → s < 2 ^ w → excluding v s n ≡ excluding w s n
+unfolding excluding
+excluding_wide v w s n wide h hs =
+    same_bits w _ _ (omega (arith, and_le_l s (2 ^ v - 1 - 2 ^ n))) (omega (arith, and_le_l s (2 ^ w - 1 - 2 ^ n))) here
+  where
+    here : (m : ℕ) → m < w → bit (bit_and s (2 ^ v - 1 - 2 ^ n)) m ≡ bit (bit_and s (2 ^ w - 1 - 2 ^ n)) m
+    here m l =
+        bit_and_lem s _ m ∙
+        ap (min (bit s m)) (bit_not v (2 ^ n) m (omega arith) (pow-lt (omega arith)) ∙ sym (bit_not w (2 ^ n) m l (pow-lt h))) ∙
+        sym (bit_and_lem s _ m)
 
 pub excluding_lt : (w s n : ℕ) → s < 2 ^ w → excluding w s n < 2 ^ w
 unfolding excluding

@@ -6,7 +6,7 @@
 -- `doing`, `done_when`); what the checks of each code allow, the net after it (`after_kept`) and how many it undoes (`undone_few`); the bytes that a
 -- call leaves (`next_held`, `next_view`, `next_undone`); touched words as sets (`word_union`).
 -- Assumes nothing.
-use Rattle.std.specs.Prelude.{ℕ, ◌≤◌, ◌≡◌, Bool, ◌&&◌, ◌||◌, List, ltb, leb, length}
+use Rattle.std.specs.Prelude.{ℕ, ◌≤◌, ◌≡◌, Bool, ◌&&◌, ◌||◌, List, ltb, leb, length, Option, Some, None, is_some, unwrap_or}
 use Rattle.std.proofs.Math.Path.{refl, ap, subst, fun_ext}
 use Rattle.std.proofs.Common.{sym, ap₂, ◌∙◌}
 use Rattle.std.proofs.Math.Bool.{true, false}
@@ -19,15 +19,13 @@ use Rattle.laws.specs.Words.{Bytes}
 use Rattle.order.specs.KeySets.{Set, ◌∈◌, ◌∪◌, empty}
 use Rattle.order.specs.Words.{word_of, word_of_in, word_of_above}
 use Rattle.names.specs.Localities.{localities}
-use Rattle.images.specs.Net.{net_bytes}
+use Rattle.images.specs.Net.{net_bytes, empty_net}
 use Rattle.images.specs.Read.{net_formed, read_net}
-use Rattle.images.specs.Read as Read
 use Rattle.images.specs.Reading.{net_read}
 use Rattle.images.specs.Round.{net_back, shaped_script, shaped_net}
 use Rattle.images.specs.Shape.{ShapedScript, ShapedNet}
 use Rattle.images.specs.declared.Script.{Script}
 use Rattle.images.specs.declared.Net as Images
-use Rattle.images.specs.declared.NetRead.{NetRead}
 use Rattle.nets.specs.Net.{Net, events}
 use Rattle.nets.specs.Forward.{Can}
 use Rattle.nets.specs.Undo.{Undoable}
@@ -42,9 +40,8 @@ use Rattle.requests.specs.Checks.{refusal, Numbered, all_hold}
 use Rattle.requests.specs.Answers as Theory
 use Rattle.requests.specs.Answers.{in_range, forward_checks, backward_checks, rollback_checks, roll_checks}
 use Rattle.requests.specs.Laws.{forward_can, undo_can}
-use Rattle.requests.specs.Requests.{asked, number, is_done, answers, answer_of, is_number, number_of, Known, refusal_known, done_number, request_of, read_request}
+use Rattle.requests.specs.Requests.{asked, asked_by, asked_back, number, is_done, answers, answer_of, is_number, number_of, Known, refusal_known, done_number, request_of, read_request}
 use Rattle.requests.specs.declared.Request.{Request}
-use Rattle.requests.specs.declared.RequestRead.{RequestRead}
 use Rattle.requests.specs.declared.Answer.{Answer}
 use Rattle.step.specs.Lent.{Good, Outcome, told, lent_after}
 use Rattle.step.specs.Lent as Lent
@@ -52,7 +49,7 @@ use Rattle.rollback.specs.Rollback.{roll_answer}
 use Rattle.rollback.specs.Checked.{roll_event, roll_held}
 use Rattle.machine.specs.Written.{bytes_net}
 use Rattle.machine.specs.After.{Kept, kept_of, forward_kept, undo_kept, rollback_kept}
-use Rattle.machine.specs.Calls.{is_good, script_in, net_in, good_script, good_net, image_answer, GoodImages, told_by, served, Reply, refused_with, reply_to, reply}
+use Rattle.machine.specs.Calls.{script_in, net_in, good_script, good_net, image_answer, GoodImages, told_by, served, Reply, refused_with, reply_to, reply}
 use Rattle.machine.specs.Called.{script_formed_lem, net_formed_lem, script_in_lem, net_in_lem, net_range, images_good, good_images}
 
 -- ---- the theory's answer to a request, by its code
@@ -150,20 +147,20 @@ module _ (s : Script) (n : Images.Net) (r : Request) where
 
 -- check 3
 abbrev is_read : List ℕ → Bool
-is_read Q = eqb (length Q) 6 && in_range (asked (request_of Q))
+is_read Q = eqb (length Q) 6 && in_range (asked_by Q)
 
 module _ (Q : List ℕ) where
-  request_read : is_read Q ≡ true → read_request Q ≡ RequestRead.Request (request_of Q)
+  request_read : is_read Q ≡ true → read_request Q ≡ Some (request_of Q)
   unfolding read_request
   request_read h =
       let six : eqb (length Q) 6 ≡ true = and_left (eqb (length Q) 6) _ h in
-      let range : in_range (asked (request_of Q)) ≡ true = and_right (eqb (length Q) 6) _ h in
+      let range : in_range (asked_by Q) ≡ true = and_right (eqb (length Q) 6) _ h in
       rw (six, range) refl
 
-  request_bad : is_read Q ≡ false → read_request Q ≡ RequestRead.Bad
+  request_bad : is_read Q ≡ false → read_request Q ≡ None
   unfolding read_request
   request_bad h =
-      cases (eqb (length Q) 6) (λ six. let range : in_range (asked (request_of Q)) ≡ false = rw six at h in rw (six, range) refl)
+      cases (eqb (length Q) 6) (λ six. let range : in_range (asked_by Q) ≡ false = rw six at h in rw (six, range) refl)
       (λ six. rw six refl)
 
 pub data Call (S N Q : List ℕ) : Type 0 where
@@ -171,7 +168,7 @@ pub data Call (S N Q : List ℕ) : Type 0 where
   bad_net_lem : good_script S ≡ true → good_net (script_in S) N ≡ false → reply S N Q ≡ refused_with Answer.BadNet N → Call S N Q
   bad_request : good_script S ≡ true → good_net (script_in S) N ≡ true → is_read Q ≡ false → reply S N Q ≡ refused_with Answer.BadRequest N → Call S N Q
   all_read : good_script S ≡ true → good_net (script_in S) N ≡ true → is_read Q ≡ true
-      → reply S N Q ≡ reply_to (script_in S) (net_in N) N (RequestRead.Request (request_of Q)) → Call S N Q
+      → reply S N Q ≡ reply_to (script_in S) (net_in N) N (Some (request_of Q)) → Call S N Q
 
 module _ (S N Q : List ℕ) where
   reply_script : good_script S ≡ false → reply S N Q ≡ refused_with Answer.BadScript N
@@ -192,9 +189,9 @@ module _ (S N Q : List ℕ) where
       (λ g.
       cases (good_net (script_in S) N)
       (λ h.
-      let by : (q : RequestRead) → read_request Q ≡ q → reply S N Q ≡ reply_to (script_in S) (net_in N) N q = λ q e. reply_request g h ∙ ap (reply_to (script_in S) (net_in N) N) e in
-      cases (is_read Q) (λ k. all_read g h k (by (RequestRead.Request (request_of Q)) (request_read Q k)))
-      (λ k. bad_request g h k (by RequestRead.Bad (request_bad Q k))))
+      let by : (q : Option Request) → read_request Q ≡ q → reply S N Q ≡ reply_to (script_in S) (net_in N) N q = λ q e. reply_request g h ∙ ap (reply_to (script_in S) (net_in N) N) e in
+      cases (is_read Q) (λ k. all_read g h k (by (Some (request_of Q)) (request_read Q k)))
+      (λ k. bad_request g h k (by None (request_bad Q k))))
       (λ h. bad_net_lem g h (reply_net g h)))
       (λ g. bad_script_lem g (reply_script g))
 
@@ -202,8 +199,15 @@ module _ (S N Q : List ℕ) where
   pub told_as : (a : Reply) → reply S N Q ≡ a → number (reply S N Q).told.answer ≡ number a.told.answer
   told_as a e = ap (λ (o : Reply). number o.told.answer) e
 
-  pub in_range_lem : is_read Q ≡ true → in_range (asked (request_of Q)) ≡ true
+  pub in_range_lem : is_read Q ≡ true → in_range (asked_by Q) ≡ true
   in_range_lem h = and_right (eqb (length Q) 6) _ h
+
+  -- what is asked of the code is what the bytes ask
+  pub asked_is : is_read Q ≡ true → asked (request_of Q) ≡ asked_by Q
+  asked_is h = asked_back Q (in_range_lem h)
+
+  pub asked_range : is_read Q ≡ true → in_range (asked (request_of Q)) ≡ true
+  asked_range h = ap in_range (asked_is h) ∙ in_range_lem h
 
 -- ---- a refusal
 
@@ -346,23 +350,23 @@ module _ (s : Script) (w : ShapedScript s) (n : Images.Net) (v : ShapedNet n) (g
   abbrev Allowed : Type 0
   Allowed = Theory.answer (rolled_by s) W (asked r) ≡ 0
 
-  pub forward_allowed : eqb r.code 0 ≡ true → Allowed → Can W (Theory.places (rolled_by s) W (asked r))
+  pub forward_allowed : eqb (asked r).code 0 ≡ true → Allowed → Can W (Theory.places (rolled_by s) W (asked r))
   forward_allowed a z = forward_can (rolled_by s) refl refl W (asked r) range (sym (answer_forward s n (asked r) range a) ∙ z)
 
-  module _ (a : eqb r.code 0 ≡ false) where
-    pub backward_allowed : eqb r.code 1 ≡ true → Allowed → Undoable W r.key.0
+  module _ (a : eqb (asked r).code 0 ≡ false) where
+    pub backward_allowed : eqb (asked r).code 1 ≡ true → Allowed → Undoable W r.key.0
     unfolding backward_checks
     backward_allowed b z =
         let hold = all_hold (backward_checks (rolled_by s) W (asked r)) ((λ e. omega (arith, e)), ((λ e. omega (arith, e)), ((λ e. omega (arith, e)), tt))) (sym (answer_backward s n (asked r) range a b) ∙ z) in
         undo_can (rolled_by s) refl W good.accepted (asked r) hold.0 hold.1.1.0
 
-    module _ (b : eqb r.code 1 ≡ false) where
-      rollback_allowed : eqb r.code 2 ≡ true → Allowed → r.key.0 ∈ events W
+    module _ (b : eqb (asked r).code 1 ≡ false) where
+      rollback_allowed : eqb (asked r).code 2 ≡ true → Allowed → r.key.0 ∈ events W
       unfolding rollback_checks
       rollback_allowed c z =
           (all_hold (rollback_checks (rolled_by s) W (asked r)) ((λ e. omega (arith, e)), ((λ e. omega (arith, e)), ((λ e. omega (arith, e)), tt))) (sym (answer_rollback s n (asked r) range a b c) ∙ z)).0
 
-      roll_allowed : eqb r.code 2 ≡ false → Allowed → rolled_by s (W.slot r.key.0).body ∈ events W
+      roll_allowed : eqb (asked r).code 2 ≡ false → Allowed → rolled_by s (W.slot r.key.0).body ∈ events W
       unfolding roll_answer
       roll_allowed c z =
           let h : is_done (roll_answer s n r) ≡ true = ap (λ (j : ℕ). is_done (answer_of j)) (sym (answer_roll s n (asked r) range a b c) ∙ z) in
@@ -372,20 +376,20 @@ module _ (s : Script) (w : ShapedScript s) (n : Images.Net) (v : ShapedNet n) (g
       event_allowed : Allowed → Theory.event (rolled_by s) W (asked r) ∈ events W
       unfolding Theory.event in_range
       event_allowed z =
-          cases (eqb r.code 2)
-          (λ c. let d : eqb r.code 3 ≡ false = ne_eqb r.code 3 (λ e. omega (arith, e, eqb-true r.code 2 c)) in rw d (rollback_allowed c z))
+          cases (eqb (asked r).code 2)
+          (λ c. let d : eqb (asked r).code 3 ≡ false = ne_eqb (asked r).code 3 (λ e. omega (arith, e, eqb-true (asked r).code 2 c)) in rw d (rollback_allowed c z))
           (λ c.
-          let d : eqb r.code 3 ≡ true =
-          eq-eqb r.code 3
-          (omega (arith, leb-true r.code 3 (and_left (leb r.code 3) _ range), eqb-false r.code 0 a, eqb-false r.code 1 b, eqb-false r.code 2 c)) in
+          let d : eqb (asked r).code 3 ≡ true =
+          eq-eqb (asked r).code 3
+          (omega (arith, leb-true (asked r).code 3 (and_left (leb (asked r).code 3) _ range), eqb-false (asked r).code 0 a, eqb-false (asked r).code 1 b, eqb-false (asked r).code 2 c)) in
           rw d (roll_allowed c z))
 
   -- the net after the call is one that an image holds, and accepted
   pub after_kept : Allowed → Kept s (Theory.net_after (rolled_by s) W (asked r))
   unfolding Theory.net_after
   after_kept z =
-      cases (eqb r.code 0) (λ a. rw a (forward_kept s w good.script n v good r range (forward_allowed a z)))
-      (λ a. cases (eqb r.code 1) (λ b. rw (a, b) (undo_kept s w good.script n v good r.key.0 (backward_allowed a b z)))
+      cases (eqb (asked r).code 0) (λ a. rw a (forward_kept s w good.script n v good r range (forward_allowed a z)))
+      (λ a. cases (eqb (asked r).code 1) (λ b. rw (a, b) (undo_kept s w good.script n v good r.key.0 (backward_allowed a b z)))
       (λ b.
       rw (a, b)
       (rollback_kept s w good.script W (kept_of s n v good.net W refl good.accepted) (Theory.event (rolled_by s) W (asked r)) (event_allowed a b z))))
@@ -394,8 +398,8 @@ module _ (s : Script) (w : ShapedScript s) (n : Images.Net) (v : ShapedNet n) (g
   pub undone_few : Allowed → Theory.undone (rolled_by s) W (asked r) ≤ 63
   unfolding Theory.undone
   undone_few z =
-      cases (eqb r.code 0) (λ a. rw a (omega arith))
-      (λ a. cases (eqb r.code 1) (λ b. rw (a, b) (omega arith))
+      cases (eqb (asked r).code 0) (λ a. rw a (omega arith))
+      (λ a. cases (eqb (asked r).code 1) (λ b. rw (a, b) (omega arith))
       (λ b. rw (a, b) (omega (arith, undone_below s w good.script W good.accepted (Theory.event (rolled_by s) W (asked r)) (event_allowed a b z)))))
 
 -- ---- the bytes that a call leaves
@@ -404,17 +408,17 @@ module _ (s : Script) (m : Net (rules_of s)) (k : Kept s m) where
   image_bytes_lem : Bytes (net_bytes (image_of s m))
   image_bytes_lem = bytes_net (image_of s m) k.range
 
-  image_read : read_net (net_bytes (image_of s m)) ≡ Read.good_net (image_of s m)
+  image_read : read_net (net_bytes (image_of s m)) ≡ Some (image_of s m)
   image_read = (net_read (net_bytes (image_of s m)) (image_of s m) image_bytes_lem k.shaped).1 (refl, k.range)
 
   image_seen : view s (net_in (net_bytes (image_of s m))) ≡ m
-  image_seen = ap (λ (r : NetRead). view s r.net) image_read ∙ k.viewed
+  image_seen = ap (λ (r : Option Images.Net). view s (unwrap_or r empty_net)) image_read ∙ k.viewed
 
   image_good : good_net s (net_bytes (image_of s m)) ≡ true
   unfolding good_net
   image_good =
       let b = net_bytes (image_of s m) in
-      and_both (is_good (read_net b).form) _ (ap (λ (r : NetRead). is_good r.form) image_read)
+      and_both (is_some (read_net b)) _ (ap (λ (r : Option Images.Net). is_some r) image_read)
       ((accepted_is_tested s (view s (net_in b)) (beyond s (net_in b))).1 (subst Accepted (sym image_seen) k.accepted))
 
 module _ (S N Q : List ℕ) (bS : Bytes S) (bN : Bytes N) (d : Doing S N Q) where
@@ -431,7 +435,7 @@ module _ (S N Q : List ℕ) (bS : Bytes S) (bN : Bytes N) (d : Doing S N Q) wher
   doing_held = record { script_bytes_lem = bS; net_bytes_lem = bN; script = d.script; net = d.net }
 
   kept : Kept s (Theory.net_after (rolled_by s) (view s n) (asked r))
-  kept = after_kept s (held_script S N doing_held) n (held_net S N doing_held) (held_good S N doing_held) r (in_range_lem S N Q d.request) d.allowed
+  kept = after_kept s (held_script S N doing_held) n (held_net S N doing_held) (held_good S N doing_held) r (asked_range S N Q d.request) d.allowed
 
   pub next_bytes : (reply S N Q).net ≡ net_bytes (image_of s (Theory.net_after (rolled_by s) (view s n) (asked r)))
   next_bytes = ap (λ (o : Reply). o.net) d.replied
@@ -451,7 +455,7 @@ module _ (S N Q : List ℕ) (bS : Bytes S) (bN : Bytes N) (d : Doing S N Q) wher
   pub next_undone : (reply S N Q).told.undone ≤ 63
   next_undone =
       subst (λ (k : ℕ). k ≤ 63) (sym (ap (λ (o : Reply). o.told.undone) d.replied))
-      (undone_few s (held_script S N doing_held) n (held_net S N doing_held) (held_good S N doing_held) r (in_range_lem S N Q d.request) d.allowed)
+      (undone_few s (held_script S N doing_held) n (held_net S N doing_held) (held_good S N doing_held) r (asked_range S N Q d.request) d.allowed)
 
 -- ---- touched words as sets
 

@@ -5,49 +5,40 @@
 -- (`accepts_tested`), so the answer is the definition's (`image_no_script`, `image_no_net`, `image_by`); images whose answer is done are good
 -- (`images_good`, `good_images`); a call on good images (`good_replies`), and any call (`call_refused`, `answer_good`).
 -- Assumes nothing.
-use Rattle.std.specs.Prelude.{ℕ, ◌≡◌, Bool, ◌&&◌, List, eqb, length}
+use Rattle.std.specs.Prelude.{ℕ, ◌≡◌, Bool, ◌&&◌, List, eqb, length, Option, Some, None, is_some, unwrap_or, Result, Ok, Err, is_ok}
 use Rattle.std.proofs.Math.Path.{refl, sym, ap}
 use Rattle.std.proofs.Common.{◌∙◌, subst}
 use Rattle.std.proofs.Math.Bool.{true, false}
 use Rattle.std.proofs.lemmas.Bool.{false≢true}
-use Rattle.laws.specs.Choice.{pick, cases, agree, and_left, and_right}
+use Rattle.laws.specs.Choice.{pick, cases, fails, agree, and_left, and_right}
 use Rattle.laws.specs.Checks.{all_of, all_at}
 use Rattle.laws.specs.Lists.{get_d_tab}
 use Rattle.laws.specs.Words.{word_at}
 use Rattle.names.specs.Names.{key_count, node_count}
 use Rattle.images.specs.Head.{part_at, head_formed, rest_zero}
-use Rattle.images.specs.Net.{slot0, slot_in_range, net_in_range}
+use Rattle.images.specs.Net.{slot0, slot_in_range, net_in_range, empty_net}
 use Rattle.images.specs.Script.{action0, script_in_range, action_in_range}
-use Rattle.images.specs.Read as Images
-use Rattle.images.specs.Read.{action_of, action_formed, script_of, script_formed, nodes_formed, slot_of, slot_formed, net_of, net_formed, slots_formed, read_script, read_net}
+use Rattle.images.specs.Read.{action_of, action_formed, script_of, script_formed, nodes_formed, slot_of, slot_formed, net_of, net_formed, slots_formed, nil_script, read_script, read_net}
 use Rattle.images.specs.Shape.{ShapedNet}
+use Rattle.images.specs.Sizes.{script_sized, net_sized}
 use Rattle.images.specs.declared.Script.{Script}
 use Rattle.images.specs.declared.Net.{Net}
-use Rattle.images.specs.declared.ScriptRead.{ScriptRead}
-use Rattle.images.specs.declared.NetRead.{NetRead}
 use Rattle.rules.specs.Same.{is_accepted, accepted_is_tested}
 use Rattle.rules.specs.View.{view, beyond}
 use Rattle.accept.specs.Verdict.{verdict_of}
 use Rattle.accept.proofs.Laws.{accepted_verdict}
-use Rattle.accept.specs.declared.Verdict.{Verdict}
+use Rattle.accept.specs.declared.Fault.{Fault}
 use Rattle.requests.specs.Answers.{in_range}
-use Rattle.requests.specs.Requests.{asked, is_done, refusal, request_of, read_request}
+use Rattle.requests.specs.Requests.{asked, asked_by, asked_back, is_done, refusal, request_of, read_request}
 use Rattle.requests.specs.declared.Request.{Request}
-use Rattle.requests.specs.declared.RequestRead.{RequestRead}
 use Rattle.requests.specs.declared.Answer.{Answer}
 use Rattle.requests.specs.declared.Told.{Told}
 use Rattle.step.specs.Lent.{Good}
 use Rattle.step.specs.Stepped.{Serves}
-use Rattle.machine.specs.Calls.{is_good, script_in, net_in, good_script, good_net, image_answer, GoodImages, served, Reply, reply_to, reply}
+use Rattle.machine.specs.Calls.{script_in, net_in, good_script, good_net, image_answer, GoodImages, served, Reply, reply_to, reply}
 
-abbrev pub accepts : Verdict → Bool
-accepts Verdict.Accepted = true
-accepts Verdict.Disagrees = false
-accepts Verdict.Twice = false
-accepts Verdict.WrongTuple = false
-accepts Verdict.WrongLocality = false
-accepts Verdict.WrongRoot = false
-accepts Verdict.Cycle = false
+abbrev pub accepts : Result Unit Fault → Bool
+accepts v = is_ok v
 
 -- what a call's contract says of its result and of the lent bytes after it
 abbrev pub Replies : Told → List ℕ → Reply → Type 0
@@ -55,38 +46,26 @@ Replies t last r = (t ≡ r.told) × (last ≡ r.net)
 
 -- ---- the request
 
-abbrev request_there : RequestRead → Bool
-request_there (RequestRead.Request r) = true
-request_there RequestRead.Bad = false
-
-abbrev request_in : Request → RequestRead → Request
-request_in d (RequestRead.Request r) = r
-request_in d RequestRead.Bad = d
-
-pub read_in_range : (q : List ℕ) (r : Request) → RequestRead.Request r ≡ read_request q → in_range (asked r) ≡ true
+pub read_in_range : (q : List ℕ) (r : Request) → Some r ≡ read_request q → in_range (asked r) ≡ true
 unfolding read_request
 read_in_range q r e =
     cases (eqb (length q) 6)
     (λ h.
-    cases (in_range (asked (request_of q)))
+    cases (in_range (asked_by q))
     (λ g.
-    let there : RequestRead.Request r ≡ RequestRead.Request (request_of q) = e ∙ rw (h, g) refl in
-    let same : r ≡ request_of q = ap (request_in r) there in
-    ap (λ (z : Request). in_range (asked z)) same ∙ g)
-    (λ g.
-    let bad : RequestRead.Request r ≡ RequestRead.Bad = e ∙ rw (h, g) refl in
-    absurd (false≢true (sym (ap request_there bad)))))
-    (λ h.
-    let bad : RequestRead.Request r ≡ RequestRead.Bad = e ∙ rw h refl in
-    absurd (false≢true (sym (ap request_there bad))))
+    let there : Some r ≡ Some (request_of q) = e ∙ rw (h, g) refl in
+    let same : r ≡ request_of q = cc in
+    ap (λ (z : Request). in_range (asked z)) same ∙ ap in_range (asked_back q g) ∙ g)
+    (λ g. let bad : Some r ≡ None = e ∙ rw (h, g) refl in cc))
+    (λ h. let bad : Some r ≡ None = e ∙ rw h refl in cc)
 
 module _ (s : Script) (n : Net) (net q : List ℕ) where
-  pub request_bad : RequestRead.Bad ≡ read_request q → (t : Told) → t ≡ refusal Answer.BadRequest → Replies t net (reply_to s n net (read_request q))
-  request_bad e t is = subst (λ (a : RequestRead). Replies t net (reply_to s n net a)) e (is, refl)
+  pub request_bad : None ≡ read_request q → (t : Told) → t ≡ refusal Answer.BadRequest → Replies t net (reply_to s n net (read_request q))
+  request_bad e t is = subst (λ (a : Option Request). Replies t net (reply_to s n net a)) e (is, refl)
 
-  pub request_good : (r : Request) → RequestRead.Request r ≡ read_request q → (t : Told) (last : List ℕ)
+  pub request_good : (r : Request) → Some r ≡ read_request q → (t : Told) (last : List ℕ)
       → Serves t last (served s n r) net → Replies t last (reply_to s n net (read_request q))
-  request_good r e t last both = subst (λ (a : RequestRead). Replies t last (reply_to s n net a)) e both
+  request_good r e t last both = subst (λ (a : Option Request). Replies t last (reply_to s n net a)) e both
 
 -- ---- the images
 
@@ -114,7 +93,7 @@ module _ (b : List ℕ) where
   unfolding read_script
   script_is = cases (script_formed b) (λ t. rw t refl) (λ t. rw t refl)
 
-  net_is : is_good (read_net b).form ≡ net_formed b
+  net_is : is_some (read_net b) ≡ net_formed b
   unfolding read_net
   net_is = cases (net_formed b) (λ t. rw t refl) (λ t. rw t refl)
 
@@ -123,21 +102,21 @@ module _ (b : List ℕ) where
 
   pub net_formed_lem : (s : Script) → good_net s b ≡ true → net_formed b ≡ true
   unfolding good_net
-  net_formed_lem s h = sym net_is ∙ and_left (is_good (read_net b).form) _ h
+  net_formed_lem s h = sym net_is ∙ and_left (is_some (read_net b)) _ h
 
-  script_held : script_formed b ≡ true → read_script b ≡ Images.good_script (script_of b)
+  script_held : script_formed b ≡ true → read_script b ≡ Some (script_of b)
   unfolding read_script
   script_held t = rw t refl
 
-  net_held : net_formed b ≡ true → read_net b ≡ Images.good_net (net_of b)
+  net_held : net_formed b ≡ true → read_net b ≡ Some (net_of b)
   unfolding read_net
   net_held t = rw t refl
 
   pub script_in_lem : script_formed b ≡ true → script_in b ≡ script_of b
-  script_in_lem t = ap (λ (z : ScriptRead). z.script) (script_held t)
+  script_in_lem t = ap (λ (z : Option Script). unwrap_or z nil_script) (script_held t)
 
   pub net_in_lem : net_formed b ≡ true → net_in b ≡ net_of b
-  net_in_lem t = ap (λ (z : NetRead). z.net) (net_held t)
+  net_in_lem t = ap (λ (z : Option Net). unwrap_or z empty_net) (net_held t)
 
   script_range : script_formed b ≡ true → script_in_range (script_in b) ≡ true
   script_range t = ap script_in_range (script_in_lem t) ∙ formed_range b t
@@ -147,14 +126,9 @@ module _ (b : List ℕ) where
 
 -- ---- acceptance
 
-accepts_is : (a : Verdict) → accepts a ≡ true → a ≡ Verdict.Accepted
-accepts_is Verdict.Accepted h = refl
-accepts_is Verdict.Disagrees h = absurd (false≢true h)
-accepts_is Verdict.Twice h = absurd (false≢true h)
-accepts_is Verdict.WrongTuple h = absurd (false≢true h)
-accepts_is Verdict.WrongLocality h = absurd (false≢true h)
-accepts_is Verdict.WrongRoot h = absurd (false≢true h)
-accepts_is Verdict.Cycle h = absurd (false≢true h)
+accepts_is : (a : Result Unit Fault) → accepts a ≡ true → a ≡ Ok tt
+accepts_is (Ok tt) h = refl
+accepts_is (Err f) h = absurd (false≢true h)
 
 -- the verdict on a net in range accepts exactly where the net is accepted
 pub accepts_tested : (s : Script) (n : Net) → ShapedNet n → net_in_range n ≡ true → accepts (verdict_of s n) ≡ is_accepted s (view s n)
@@ -183,15 +157,29 @@ module _ (S N : List ℕ) where
     image_no_net h = by_net false (rw h refl)
 
     -- by the verdict, where both have their form
-    pub image_by : net_formed N ≡ true → ShapedNet (net_of N) → (v : Verdict) → v ≡ verdict_of (script_of S) (net_of N) → (b : Bool) → b ≡ accepts v
+    pub image_by : net_formed N ≡ true → ShapedNet (net_of N) → (v : Result Unit Fault) → v ≡ verdict_of (script_of S) (net_of N) → (b : Bool) → b ≡ accepts v
         → pick b Answer.Done Answer.BadNet ≡ image_answer S N
     unfolding good_net
     image_by g shaped v is-v b is_b =
         let read-script = script_held S f in
         let read_net_lem = net_held N g in
         by_net b
-        ((λ i. is_good (read_net_lem i).form && is_accepted (read-script i).script (view (read-script i).script (read_net_lem i).net)) ∙
+        ((λ i. is_some (read_net_lem i) && is_accepted (unwrap_or (read-script i) nil_script) (view (unwrap_or (read-script i) nil_script) (unwrap_or (read_net_lem i) empty_net))) ∙
         sym (is_b ∙ ap accepts is-v ∙ accepts_tested (script_of S) (net_of N) shaped (formed_net_range N g)))
+
+-- bytes of another length have no form
+pub script_long : (b : List ℕ) → (length b ≡ 2064 → ⊥) → script_formed b ≡ false
+script_long b h = fails (script_formed b) (λ t. absurd (h (script_sized b t)))
+
+pub net_long : (b : List ℕ) → (length b ≡ 3600 → ⊥) → net_formed b ≡ false
+net_long b h = fails (net_formed b) (λ t. absurd (h (net_sized b t)))
+
+-- what a test says of bytes, it says of the same bytes
+pub says : (test : List ℕ → Bool) {b c : List ℕ} → b ≡ c → {r y : Bool} → r ≡ test b → r ≡ y → test c ≡ y
+says test e is h = ap test (sym e) ∙ sym is ∙ h
+
+pub verdict_same : {S N s n : List ℕ} → s ≡ S → n ≡ N → {v : Result Unit Fault} → v ≡ verdict_of (script_of s) (net_of n) → v ≡ verdict_of (script_of S) (net_of N)
+verdict_same e d is = is ∙ (λ i. verdict_of (script_of (e i)) (net_of (d i)))
 
 -- ---- images that are good
 
@@ -212,7 +200,7 @@ good_images script net h =
       net = net_range net (net_formed_lem net (script_in script) q);
       accepted =
           (accepted_is_tested (script_in script) (view (script_in script) (net_in net)) (beyond (script_in script) (net_in net))).0
-          (and_right (is_good (read_net net).form) _ q);
+          (and_right (is_some (read_net net)) _ q);
     }
 
 -- ---- the call

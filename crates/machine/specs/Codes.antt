@@ -39,7 +39,7 @@ use Rattle.requests.specs.Checks.{none_fails}
 use Rattle.requests.specs.Answers as Theory
 use Rattle.requests.specs.Answers.{in_range, no_places, backward_checks, rollback_checks}
 use Rattle.requests.specs.Laws.{can_forward, can_undo_lem}
-use Rattle.requests.specs.Requests.{asked, number, request_of}
+use Rattle.requests.specs.Requests.{asked, asked_by, number, request_of}
 use Rattle.step.specs.Lent.{Good}
 use Rattle.machine.specs.Calls.{script_in, net_in, Reply, reply}
 use Rattle.machine.specs.Called.{net_formed_lem, net_in_lem}
@@ -88,7 +88,7 @@ module _ (s : Script) (m : Net (rules_of s)) (ok : Accepted m) (p : Forward.Requ
       (λ t. below_in locality_count p.place (ltb-true p.place locality_count (and_right (leb 8 p.place) _ (P.place t))))
       (λ t. none_in locality_count p.place (P.no_place t))
 
-  can_range : in_range (asked (request_of (step_request p))) ≡ true
+  can_range : in_range (asked_by (step_request p)) ≡ true
   unfolding in_range
   can_range =
       and_both (ltb p.key key_count) _ (lt-ltb p.key key_count key_below)
@@ -97,11 +97,11 @@ module _ (s : Script) (m : Net (rules_of s)) (ok : Accepted m) (p : Forward.Requ
       (and_both (below_or_none key_count p.second) _ second_in place_in)))
 
 -- a request that names a key alone is in range where the key is
-plain_range : (code k : ℕ) → leb code 3 ≡ true → k < key_count → in_range (asked (request_of (plain_request code k))) ≡ true
+plain_range : (code k : ℕ) → leb code 3 ≡ true → k < key_count → in_range (asked_by (plain_request code k)) ≡ true
 unfolding in_range
 plain_range code k c h = rw (c, lt-ltb k key_count h) refl
 
-plain_none : (code k : ℕ) → no_places (asked (request_of (plain_request code k))) ≡ true
+plain_none : (code k : ℕ) → no_places (asked_by (plain_request code k)) ≡ true
 unfolding no_places
 plain_none code k = refl
 

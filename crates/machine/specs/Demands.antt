@@ -34,7 +34,7 @@ use Rattle.rules.specs.Theorems.{any_order}
 use Rattle.requests.specs.Checks.{Check, check, refusal, Hold, Numbered, FirstFails, refused_iff, all_hold, none_fails}
 use Rattle.requests.specs.Answers as Theory
 use Rattle.requests.specs.Answers.{Request, in_range, net_after, forward_checks, backward_checks, rollback_checks, roll_checks}
-use Rattle.requests.specs.Requests.{asked, number, answers, is_number, number_listed, request_of}
+use Rattle.requests.specs.Requests.{asked_by, number, answers, is_number, number_listed, request_of}
 use Rattle.machine.specs.Calls.{script_in, net_in, good_script, good_net, reply}
 use Rattle.machine.specs.Bytes as Why
 use Rattle.machine.specs.Bytes.{Held}
@@ -74,7 +74,7 @@ view_in S N = view (script_in S) (net_in N)
 
 -- 3: "request not 6 bytes; code above 3; key above 63; others neither 255 nor in range"
 abbrev pub good_request : List ℕ → Bool
-good_request Q = eqb (length Q) 6 && in_range (asked (request_of Q))
+good_request Q = eqb (length Q) 6 && in_range (asked_by Q)
 
 -- 4 to 12, by the code: "0 forward, 1 backward, 2 rollback of the named event, 3 roll by the named live process"
 abbrev pub code_checks : (S N : List ℕ) → Request → List Check
@@ -87,7 +87,7 @@ code_checks S N r =
 -- "Checks run in number order": 1 "script's length or form", 2 "net not accepted", 3, and those of the code
 abbrev pub call_checks : (S N Q : List ℕ) → List Check
 call_checks S N Q =
-    check 1 (good_script S) ∷ check 2 (good_net (script_in S) N) ∷ check 3 (good_request Q) ∷ code_checks S N (asked (request_of Q))
+    check 1 (good_script S) ∷ check 2 (good_net (script_in S) N) ∷ check 3 (good_request Q) ∷ code_checks S N (asked_by Q)
 
 -- "Every call ends": `reply` is a function of the three byte strings.
 pub record Demand1 (S N Q : List ℕ) : Type 0 where
@@ -127,7 +127,7 @@ image_in S m = net_bytes (image_of (script_in S) m)
 pub record After (S N Q : List ℕ) : Type 0 where
   pub bytes : Bytes (bytes_after S N Q)
   pub images : Images S (bytes_after S N Q)
-  pub viewed : view_in S (bytes_after S N Q) ≡ net_after (rolled_by (script_in S)) (view_in S N) (asked (request_of Q))
+  pub viewed : view_in S (bytes_after S N Q) ≡ net_after (rolled_by (script_in S)) (view_in S N) (asked_by Q)
 
 pub record Demand2 (S N : List ℕ) : Type 0 where
   -- "A forward or backward step gives exactly the net that the .. rules .. give for that request": done exactly when the rule applies, and then
@@ -204,7 +204,7 @@ pub record Demand3 (S N : List ℕ) (e : ℕ) : Type 0 where
 
 module _ (S N Q : List ℕ) where
   abbrev r : Request
-  r = asked (request_of Q)
+  r = asked_by Q
 
   -- check 3 holds, so the theory's answer is the first of the code's checks that does not
   code_answer : in_range r ≡ true → Theory.answer (rolled_by (script_in S)) (view_in S N) r ≡ refusal (code_checks S N r)
@@ -221,7 +221,8 @@ module _ (S N Q : List ℕ) where
       each (Why.bad_request g h k e) = Why.told_as S N Q _ e ∙ rw (g, h, k) refl
       each (Why.all_read g h k e) =
           let range = Why.in_range_lem S N Q k in
-          Why.told_as S N Q _ e ∙ Why.served_number (script_in S) (net_in N) (request_of Q) ∙ code_answer range ∙ rw (g, h, k) refl
+          Why.told_as S N Q _ e ∙ Why.served_number (script_in S) (net_in N) (request_of Q) ∙
+          ap (Theory.answer (rolled_by (script_in S)) (view_in S N)) (Why.asked_is S N Q k) ∙ code_answer range ∙ rw (g, h, k) refl
 
   -- no check has the number 0
   code_numbered : Numbered (code_checks S N r)
@@ -261,7 +262,7 @@ module _ (S N : List ℕ) (bS : Bytes S) (bN : Bytes N) where
   after Q z =
       let d = Why.doing S N Q z in
       let h = Why.next_held S N Q bS bN d in
-      record { bytes = h.net_bytes_lem; images = (h.script, h.net); viewed = Why.next_view S N Q bS bN d }
+      record { bytes = h.net_bytes_lem; images = (h.script, h.net); viewed = Why.next_view S N Q bS bN d ∙ ap (net_after (rolled_by (script_in S)) (view_in S N)) (Why.asked_is S N Q d.request) }
 
   pub demand_2 : Demand2 S N
   demand_2 =

@@ -2,15 +2,16 @@
 -- In order: the lengths of good images (`script_size`, `net_size`) and what they hold (`script_of_lem`, `net_of_lem`), as a request's code asks for it (`lent`); each code
 -- of a request (`forward_serves`, `backward_serves`, `rollback_serves`, `roll_serves`).
 -- Assumes nothing.
-use Rattle.std.specs.Prelude.{ℕ, ◌≡◌, true, false, List, eqb}
-use Rattle.std.proofs.Common.{sym, ◌∙◌, subst}
+use Rattle.std.specs.Prelude.{ℕ, ◌≡◌, List, eqb, true}
+use Rattle.std.proofs.Common.{sym, ap, ◌∙◌, subst}
 use Rattle.laws.specs.Words.{Bytes}
 use Rattle.images.specs.Read.{script_of, script_formed, net_of, net_formed}
 use Rattle.images.specs.Sizes.{Scripted, Sized, script_sized, net_sized}
 use Rattle.images.specs.declared.Script.{Script}
 use Rattle.images.specs.declared.Net.{Net}
 use Rattle.requests.specs.Answers.{in_range}
-use Rattle.requests.specs.Requests.{asked}
+use Rattle.requests.specs.Requests.{code_number, asked}
+use Rattle.requests.specs.declared.Code.{Code}
 use Rattle.requests.specs.declared.Request.{Request}
 use Rattle.requests.specs.declared.Told.{Told}
 use Rattle.step.specs.Lent.{Good, Lent, Outcome}
@@ -65,23 +66,27 @@ module _ (S N : List ℕ) (good : GoodImages S N) where
     held : Held S N
     held = good_held S N good bS bN
 
+    -- the code's number is this one, or is not
+    is_code : {c : Code} (k : ℕ) → r.code ≡ c → eqb (asked r).code k ≡ eqb (code_number c) k
+    is_code k e = ap (λ (c : Code). eqb (code_number c) k) e
+
     -- what is given of the images that the bytes hold, by its law on what is read
     serves : (o : Script → Net → Request → Outcome) → o s n r ≡ served s n r → Serves z last (o (script_of S) (net_of N) r) N → Serves z last (served s n r) N
     serves o e = subst (λ (q : Outcome). Serves z last q N) ((λ i. o (script_of_lem i) (net_of_lem i) r) ∙ e)
 
-    pub forward_serves : eqb r.code 0 ≡ true → Serves z last (forward_outcome (script_of S) (net_of N) r) N → Serves z last (served s n r) N
+    pub forward_serves : r.code ≡ Code.Forward → Serves z last (forward_outcome (script_of S) (net_of N) r) N → Serves z last (served s n r) N
     forward_serves code =
-        serves forward_outcome (forward_served s (held_script S N held) n (held_net S N held) (good_images S N good) r range code)
+        serves forward_outcome (forward_served s (held_script S N held) n (held_net S N held) (good_images S N good) r range (is_code 0 code))
 
-    pub backward_serves : eqb r.code 1 ≡ true → Serves z last (backward_outcome (script_of S) (net_of N) r) N → Serves z last (served s n r) N
+    pub backward_serves : r.code ≡ Code.Backward → Serves z last (backward_outcome (script_of S) (net_of N) r) N → Serves z last (served s n r) N
     backward_serves code =
-        serves backward_outcome (backward_served s (held_script S N held) n (held_net S N held) (good_images S N good) r range code)
+        serves backward_outcome (backward_served s (held_script S N held) n (held_net S N held) (good_images S N good) r range (is_code 1 code))
 
-    pub rollback_serves : eqb r.code 2 ≡ true → Serves z last (rollback_outcome (script_of S) (net_of N) r) N → Serves z last (served s n r) N
+    pub rollback_serves : r.code ≡ Code.Rollback → Serves z last (rollback_outcome (script_of S) (net_of N) r) N → Serves z last (served s n r) N
     rollback_serves code =
-        serves rollback_outcome (rollback_served s (held_script S N held) n (held_net S N held) (good_images S N good) r range code)
+        serves rollback_outcome (rollback_served s (held_script S N held) n (held_net S N held) (good_images S N good) r range (is_code 2 code))
 
-    pub roll_serves : eqb r.code 0 ≡ false → eqb r.code 1 ≡ false → eqb r.code 2 ≡ false
-        → Serves z last (roll_outcome (script_of S) (net_of N) r) N → Serves z last (served s n r) N
-    roll_serves one two three =
-        serves roll_outcome (roll_served s (held_script S N held) n (held_net S N held) (good_images S N good) r range one two three)
+    pub roll_serves : r.code ≡ Code.Roll → Serves z last (roll_outcome (script_of S) (net_of N) r) N → Serves z last (served s n r) N
+    roll_serves code =
+        serves roll_outcome
+        (roll_served s (held_script S N held) n (held_net S N held) (good_images S N good) r range (is_code 0 code) (is_code 1 code) (is_code 2 code))

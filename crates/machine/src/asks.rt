@@ -1,67 +1,53 @@
-// Questions on bytes that change nothing: the finder, the least free key and the least absent locality. The images are checked as for a call.
+// Questions on bytes that change nothing: the finder, the least free key and the least absent locality. The images are checked as for a call, in each
+// by a match, which is plainer than a function that takes what is asked as a closure.
 ghost use Rattle.std.specs.Prelude.{◌≡◌};
 ghost use Rattle.machine.specs.Asks.{found_in, free_key_in, free_locality_in};
 
-use super::image_answer;
+use super::images_in;
 use finder::{Found, absent_locality};
 use images::net_image::present_in;
 use names::{Key, Locality};
 use requests::Answer;
-use step::Check;
-use step::checks::all_hold;
-
-// The answer, and the locality; none where there is none.
-#[derive(Clone, Copy)]
-pub struct FoundLocality {
-    pub answer: Answer,
-    pub locality: Locality,
-}
 
 // The least key of a live tuple that the process with this key would meet; any byte may be given as its key.
-pub fn find(script: &[u8], net: &[u8], key: u8) -> Found
+pub fn find(script: &[u8], net: &[u8], key: u8) -> Found<Key>
     ensures { result ≡ found_in script.now net.now key }
 {
-    let answer = image_answer(script, net);
-    let Check::Holds = all_hold(answer) else {
-        return Found {
+    match images_in(script, net) {
+        Ok((script, net)) => finder::find(script, net, Key(key)),
+        Err(answer) => Found {
             answer,
-            key: Key::NONE,
-        };
-    };
-    finder::find(script, net, Key(key))
-}
-
-pub fn free_key(script: &[u8], net: &[u8]) -> Found
-    ensures { result ≡ free_key_in script.now net.now }
-{
-    let answer = image_answer(script, net);
-    let Check::Holds = all_hold(answer) else {
-        return Found {
-            answer,
-            key: Key::NONE,
-        };
-    };
-    let key = finder::free_key(net);
-    Found {
-        answer: Answer::Done,
-        key,
+            name: Key::NONE,
+        },
     }
 }
 
-pub fn free_locality(script: &[u8], net: &[u8]) -> FoundLocality
+pub fn free_key(script: &[u8], net: &[u8]) -> Found<Key>
+    ensures { result ≡ free_key_in script.now net.now }
+{
+    match images_in(script, net) {
+        Ok((_, net)) => Found {
+            answer: Answer::Done,
+            name: finder::free_key(net),
+        },
+        Err(answer) => Found {
+            answer,
+            name: Key::NONE,
+        },
+    }
+}
+
+pub fn free_locality(script: &[u8], net: &[u8]) -> Found<Locality>
     ensures { result ≡ free_locality_in script.now net.now }
 {
-    let answer = image_answer(script, net);
-    let Check::Holds = all_hold(answer) else {
-        return FoundLocality {
+    match images_in(script, net) {
+        Ok((_, net)) => Found {
+            answer: Answer::Done,
+            name: absent_locality(present_in(net)),
+        },
+        Err(answer) => Found {
             answer,
-            locality: Locality::NONE,
-        };
-    };
-    let present = present_in(net);
-    let locality = absent_locality(present);
-    FoundLocality {
-        answer: Answer::Done,
-        locality,
+            name: Locality::NONE,
+        },
     }
 }

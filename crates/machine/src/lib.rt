@@ -1,39 +1,43 @@
 // The public calls: script, net and request are any byte strings. Checks run in number order; the lent net is written only where a call is
-// done, so a refusal leaves every byte.
+// done, so a refusal leaves every byte. Script and net are two parameters, as C lends them.
 #![tactic(auto)]
 
-ghost use Rattle.std.specs.Prelude.{◌≡◌, true};
+ghost use Rattle.std.specs.Prelude.{◌≡◌, true, false, MatchResult};
 ghost use Rattle.requests.specs.Answers.{in_range};
-ghost use Rattle.requests.specs.Requests.{asked};
+ghost use Rattle.requests.specs.Requests.{asked, is_done};
 ghost use Rattle.step.specs.Lent.{told, lent_after};
 ghost use Rattle.machine.specs.Calls.{script_in, net_in, image_answer, GoodImages, served, reply};
-ghost use Rattle.machine.specs.Called.{accepts};
 
-use accept::{Verdict, accept};
-use images::net_image::net_formed;
-use images::script_image::script_formed;
-use requests::{Answer, Request, RequestRead, Told, read_request, refused};
+use accept::accept;
+use images::net_image::{NetBytes, net_formed};
+use images::script_image::{ScriptBytes, script_formed};
+use requests::{Answer, Code, Request, Told, read_request, refused};
 use rollback::{roll, rollback};
-use step::Check;
 use step::backward::backward;
-use step::checks::all_hold;
 use step::forward::forward;
 
 pub mod asks;
 
 // ---- the images
 
-fn is_accepted(v: Verdict) -> bool
-    ensures { result ≡ accepts v }
+// The bytes of a script and of a net, where both have their form and the net is accepted; otherwise the answer, 1 or 2.
+fn images_in<'s, 'n>(
+    script: &'s [u8],
+    net: &'n [u8],
+) -> Result<(&'s ScriptBytes, &'n NetBytes), Answer>
+    ensures { MatchResult result (λ p. GoodImages script.now net.now × (p.0.now ≡ script.now) × (p.1.now ≡ net.now)) (λ a. (a ≡ image_answer script.now net.now) × (is_done a ≡ false)) }
 {
-    match v {
-        Verdict::Accepted => true,
-        Verdict::Disagrees => false,
-        Verdict::Twice => false,
-        Verdict::WrongTuple => false,
-        Verdict::WrongLocality => false,
-        Verdict::WrongRoot => false,
-        Verdict::Cycle => false,
+    let script = match <&ScriptBytes>::try_from(script) {
+        Ok(script) if script_formed(script) => script,
+        _ => return Err(Answer::BadScript),
+    };
+    let net = match <&NetBytes>::try_from(net) {
+        Ok(net) if net_formed(net) => net,
+        _ => return Err(Answer::BadNet),
+    };
+    match accept(script, net) {
+        Ok(()) => Ok((script, net)),
+        Err(_) => Err(Answer::BadNet),
     }
 }
 
@@ -41,48 +45,35 @@ fn is_accepted(v: Verdict) -> bool
 pub fn image_answer(script: &[u8], net: &[u8]) -> Answer
     ensures { result ≡ image_answer script.now net.now }
 {
-    if !script_formed(script) {
-        return Answer::BadScript;
+    match images_in(script, net) {
+        Ok(_) => Answer::Done,
+        Err(answer) => answer,
     }
-    if !net_formed(net) {
-        return Answer::BadNet;
-    }
-    let verdict = accept(script, net);
-    if !is_accepted(verdict) {
-        return Answer::BadNet;
-    }
-    Answer::Done
 }
 
 // ---- a request on good images
 
-// "Codes: 0 forward, 1 backward, 2 rollback of the named event, 3 roll by the named live process."
-fn serve(script: &[u8], net: &mut [u8], r: Request) -> Told
+fn serve(script: &ScriptBytes, net: &mut NetBytes, r: Request) -> Told
     requires { GoodImages script.now net.old × (in_range (asked r) ≡ true) }
     ensures value { result ≡ told (served (script_in script.now) (net_in net.old) r) }
     ensures net_after { net.new ≡ lent_after (served (script_in script.now) (net_in net.old) r) net.old }
 {
-    if r.code == Request::FORWARD {
-        return forward(script, net, r);
+    match r.code {
+        Code::Forward => forward(script, net, r),
+        Code::Backward => backward(script, net, r),
+        Code::Rollback => rollback(script, net, r),
+        Code::Roll => roll(script, net, r),
     }
-    if r.code == Request::BACKWARD {
-        return backward(script, net, r);
-    }
-    if r.code == Request::ROLLBACK {
-        return rollback(script, net, r);
-    }
-    roll(script, net, r)
 }
 
 // ---- a call
 
 // A call on images that are good: what a run of requests does for each.
-pub fn call_on(script: &[u8], net: &mut [u8], request: &[u8]) -> Told
+pub fn call_on(script: &ScriptBytes, net: &mut NetBytes, request: &[u8]) -> Told
     requires { GoodImages script.now net.old }
     ensures { (result ≡ (reply script.now net.old request.now).told) × (net.new ≡ (reply script.now net.old request.now).net) }
 {
-    let asked = read_request(request);
-    let RequestRead::Request(r) = asked else {
+    let Some(r) = read_request(request) else {
         return refused(Answer::BadRequest);
     };
     serve(script, net, r)
@@ -92,9 +83,12 @@ pub fn call_on(script: &[u8], net: &mut [u8], request: &[u8]) -> Told
 pub fn call(script: &[u8], net: &mut [u8], request: &[u8]) -> Told
     ensures { (result ≡ (reply script.now net.old request.now).told) × (net.new ≡ (reply script.now net.old request.now).net) }
 {
-    let answer = image_answer(script, net);
-    let Check::Holds = all_hold(answer) else {
-        return refused(answer);
+    let script = match images_in(script, net) {
+        Ok((script, _)) => script,
+        Err(answer) => return refused(answer),
+    };
+    let Some(net) = net.as_mut_array() else {
+        return refused(Answer::BadNet);
     };
     call_on(script, net, request)
 }

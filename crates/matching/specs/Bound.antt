@@ -1,9 +1,9 @@
 -- Binding where the process lies: "an in or read binds its formals", in the bytes of the net.
--- In order: one field (`bind_put`), the first k (`bound_up_to`) and all (`bound_put`); one more (`bound_step`); they stay as many (`length_bound`); in the slot that was written
+-- In order: one field (`bind_put`), the first k (`bound_up_to`) and all (`bound_put`); they stay as many (`length_bound`); in the slot that was written
 -- there last they are the variables bound (`bound_put_lem`).
 -- Assumes nothing.
-use Prim.Native.Nat.{ℕ, zero, suc, ◌+◌}
-use Rattle.std.proofs.Common.{add-one, ◌∙◌, length-set, ltb-true}
+use Prim.Native.Nat.{ℕ, zero, suc}
+use Rattle.std.proofs.Common.{◌∙◌, length-set, ltb-true}
 use Rattle.std.specs.Prelude.{◌≡◌, List, ltb, length, get_or}
 use Rattle.std.proofs.Math.Path.{refl, ap}
 use Rattle.laws.specs.Choice.{pick, cases}
@@ -32,12 +32,6 @@ bound_up_to (suc j) a met k b = bind_put (field_at a j) (get_or met j datum0) k 
 unfoldable pub bound_put : Action → List Datum → Key → List ℕ → List ℕ
 bound_put a met k b = bound_up_to 4 a met k b
 
--- a turn more
-pub bound_step : (j : ℕ) (a : Action) (met : List Datum) (k : Key) (b c d : List ℕ) → c ≡ bound_up_to j a met k b
-    → d ≡ bind_put (field_at a j) (get_or met j datum0) k c → d ≡ bound_up_to (j + 1) a met k b
-unfolding bound_up_to
-bound_step j a met k b c d is_c is-d = rw (add-one j) (is-d ∙ ap (bind_put (field_at a j) (get_or met j datum0) k) is_c)
-
 -- ---- as many bytes
 
 pub length_bind : (f : Field) (d : Datum) (k : Key) (b : List ℕ) → Sized b → Sized (bind_put f d k b)
@@ -49,9 +43,6 @@ length_bind f d k b sized =
     (λ l. rw (t, l) (length_variable_put k b sized (variable f.number) (ltb-true f.number 8 l) d))
     (λ l. rw (t, l) sized))
     (λ t. rw t sized)
-
-pub bind_kept : (f : Field) (d : Datum) (k : Key) (b c : List ℕ) → c ≡ bind_put f d k b → Sized b → Sized c
-bind_kept f d k b c e sized = ap length e ∙ length_bind f d k b sized
 
 length_up : (j : ℕ) (a : Action) (met : List Datum) (k : Key) (b : List ℕ) → Sized b → Sized (bound_up_to j a met k b)
 unfolding bound_up_to

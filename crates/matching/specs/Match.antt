@@ -1,15 +1,13 @@
 -- When a template meets a tuple, and what that binds. 004, Table III; document 01, "Forward rules": "Same field count is needed to match.
 -- Actual fields match the same kind and number; a formal for a value only a value, for a locality only a locality."
 -- Assumes nothing.
-use Rattle.std.specs.Prelude.{ℕ, zero, suc, ◌+◌, Bool, ◌&&◌, eqb, get_or}
-use Rattle.std.proofs.Common.{add-one, ap}
+use Rattle.std.specs.Prelude.{ℕ, zero, suc, ◌+◌, Bool, ◌&&◌, eqb, get_or, Result, Ok, Err}
 use Rattle.std.proofs.Math.Path.{◌≡◌}
-use native.Mathlib.Omega.{arith}
 use mathlib.Core.List.{List}
 use Rattle.std.proofs.Math.Bool.{true, false}
 use Rattle.std.proofs.Math.Dec.{ltb}
 use Rattle.std.proofs.Math.ListN.{set}
-use Rattle.laws.specs.Choice.{pick, cases, and_left, and_right}
+use Rattle.laws.specs.Choice.{pick, cases}
 use Rattle.laws.specs.Checks.{all}
 use Rattle.names.specs.Names.{variable_count}
 use Rattle.images.specs.Script.{field_at}
@@ -17,9 +15,9 @@ use Rattle.images.specs.Net.{datum0}
 use Rattle.images.specs.declared.Field.{Field}
 use Rattle.images.specs.declared.Action.{Action}
 use Rattle.images.specs.declared.Datum.{Datum}
-use Rattle.matching.specs.Evaluate.{actual, is_formal}
-use Rattle.matching.specs.declared.Match.{Match}
 use Rattle.images.specs.declared.Slot.{Slot}
+use Rattle.matching.specs.Evaluate.{actual, is_formal}
+use Rattle.matching.specs.declared.Mismatch.{Mismatch}
 
 -- one field of a template against one of a tuple
 unfoldable pub field_meets : List Datum → Field → Datum → Bool
@@ -41,16 +39,6 @@ with_variable vars v d = pick (ltb v variable_count) (set vars v d) vars
 unfoldable pub bind_one : List Datum → Field → Datum → List Datum
 bind_one vars f d = pick (is_formal f) (with_variable vars f.number d) vars
 
--- it binds a variable: it is a formal, and names one
-abbrev pub binds : Field → Bool
-binds f = is_formal f && ltb f.number variable_count
-
-pub no_formal : (f : Field) → is_formal f ≡ false → binds f ≡ false
-no_formal f h = rw h
-
-pub no_variable : (f : Field) → ltb f.number variable_count ≡ false → binds f ≡ false
-no_variable f h = cases (is_formal f) (λ t. rw (t, h)) (λ t. rw t)
-
 -- the first k fields bound
 unfoldable pub bind_up_to : ℕ → List Datum → Action → List Datum → List Datum
 bind_up_to zero vars a fields = vars
@@ -59,52 +47,27 @@ bind_up_to (suc k) vars a fields = bind_one (bind_up_to k vars a fields) (field_
 unfoldable pub bound : List Datum → Action → List Datum → List Datum
 bound vars a fields = bind_up_to 4 vars a fields
 
--- a field more: its variable takes the tuple's field where it binds one, and otherwise all stays
-module _ (vars : List Datum) (a : Action) (fields : List Datum) (k : ℕ) (now : List Datum) (is : now ≡ bind_up_to k vars a fields) where
-  pub bound_none : binds (field_at a k) ≡ false → now ≡ bind_up_to (k + 1) vars a fields
-  unfolding bind_up_to bind_one
-  bound_none h =
-      rw (add-one k)
-      (cases (is_formal (field_at a k)) (λ f. let v : ltb (field_at a k).number variable_count ≡ false = rw f at h in rw (f, v) is) (λ f. rw f is))
+-- ---- the template of a node against a tuple, as an answer
+abbrev pub mismatch : Mismatch
+mismatch = record {}
 
-  pub bound_one : binds (field_at a k) ≡ true → set now (field_at a k).number (get_or fields k datum0) ≡ bind_up_to (k + 1) vars a fields
-  unfolding bind_up_to bind_one
-  bound_one h =
-      let f : is_formal (field_at a k) ≡ true = and_left (is_formal (field_at a k)) _ h in
-      let v : ltb (field_at a k).number variable_count ≡ true = and_right (is_formal (field_at a k)) _ h in
-      rw (add-one k, f, v) (ap (λ (l : List Datum). set l (field_at a k).number (get_or fields k datum0)) is)
-
--- the template of a node against a tuple, as an answer
-unfoldable pub match_of : List Datum → Action → Slot → Match
-match_of vars a t = pick (meets vars a t.count t.contents) Match.Matches Match.Differs
-
-pub a_match : (vars : List Datum) (a : Action) (t : Slot) → meets vars a t.count t.contents ≡ true → Match.Matches ≡ match_of vars a t
-unfolding match_of
-a_match vars a t h = rw h
-
-pub no_match : (vars : List Datum) (a : Action) (t : Slot) → meets vars a t.count t.contents ≡ false → Match.Differs ≡ match_of vars a t
-unfolding match_of
-no_match vars a t h = rw h
-
--- ---- what the answer says
-
-abbrev match_number : Match → ℕ
-match_number Match.Matches = 1
-match_number Match.Differs = 0
+unfoldable pub match_of : List Datum → Action → Slot → Result (Unit {0}) Mismatch
+match_of vars a t = pick (meets vars a t.count t.contents) (Ok tt) (Err mismatch)
 
 module _ (vars : List Datum) (a : Action) (t : Slot) where
-  pub matches_meets : match_of vars a t ≡ Match.Matches → meets vars a t.count t.contents ≡ true
+  pub a_match : meets vars a t.count t.contents ≡ true → Ok tt ≡ match_of vars a t
   unfolding match_of
-  matches_meets e =
-      cases (meets vars a t.count t.contents) (λ q. q) (λ q. absurd (apart (ap match_number (rw q at e))))
-    where
-      apart : ◌≡◌ {A = ℕ} 0 1 → ⊥
-      apart z = omega arith
+  a_match h = rw h
 
-  pub differs_not : match_of vars a t ≡ Match.Differs → meets vars a t.count t.contents ≡ false
+  pub no_match : meets vars a t.count t.contents ≡ false → Err mismatch ≡ match_of vars a t
   unfolding match_of
-  differs_not e =
-      cases (meets vars a t.count t.contents) (λ q. absurd (apart (ap match_number (rw q at e)))) (λ q. q)
-    where
-      apart : ◌≡◌ {A = ℕ} 1 0 → ⊥
-      apart z = omega arith
+  no_match h = rw h
+
+  -- what the answer says
+  pub matches_meets : match_of vars a t ≡ Ok tt → meets vars a t.count t.contents ≡ true
+  unfolding match_of
+  matches_meets e = cases (meets vars a t.count t.contents) (λ q. q) (λ q. let b : Err mismatch ≡ Ok tt = rw q at e in cc)
+
+  pub differs_not : match_of vars a t ≡ Err mismatch → meets vars a t.count t.contents ≡ false
+  unfolding match_of
+  differs_not e = cases (meets vars a t.count t.contents) (λ q. let b : Ok tt ≡ Err mismatch = rw q at e in cc) (λ q. q)

@@ -1,17 +1,13 @@
 -- Names from bytes. Document 01, "Names and images": "Keys, localities, variables and nodes are four disjoint sets of names: keys 0..63,
 -- localities 0..31, variables 0..7, nodes 0..63. There are also references 0..3, which hold keys. 255 means 'none' where said."
 -- Assumes nothing.
-use Rattle.std.specs.Prelude.{ℕ, Bool, true, ltb, eqb}
+use Rattle.std.specs.Prelude.{ℕ, Bool, true, ltb, eqb, Option, Some, None}
 use Rattle.laws.specs.Choice.{pick}
 use Rattle.names.specs.declared.Key.{Key}
 use Rattle.names.specs.declared.Locality.{Locality}
 use Rattle.names.specs.declared.Variable.{Variable}
 use Rattle.names.specs.declared.Node.{Node}
 use Rattle.names.specs.declared.Reference.{Reference}
-use Rattle.names.specs.declared.KeyRead.{KeyRead}
-use Rattle.names.specs.declared.LocalityRead.{LocalityRead}
-use Rattle.names.specs.declared.VariableRead.{VariableRead}
-use Rattle.names.specs.declared.NodeRead.{NodeRead}
 
 -- ---- how many there are of each; the mark for none; the first locality that a step may make
 abbrev pub key_count : ℕ
@@ -75,20 +71,28 @@ abbrev pub is_reference_or_none : Reference → Bool
 is_reference_or_none r = below_or_none reference_count r.0
 
 -- ---- names from bytes
-abbrev pub key_of : ℕ → KeyRead
-key_of b = pick (ltb b key_count) (KeyRead.Key (key b)) KeyRead.Bad
+-- the name of a number below the limit
+abbrev pub name_of : {A : Type 0} → (ℕ → A) → ℕ → ℕ → Option A
+name_of named limit b = pick (ltb b limit) (Some (named b)) None
 
-abbrev pub key_or_none : ℕ → KeyRead
-key_or_none b = pick (below_or_none key_count b) (KeyRead.Key (key b)) KeyRead.Bad
+-- a name, or the mark for none
+abbrev pub name_or_none : {A : Type 0} → (ℕ → A) → ℕ → ℕ → Option A
+name_or_none named limit b = pick (below_or_none limit b) (Some (named b)) None
 
-abbrev pub locality_of : ℕ → LocalityRead
-locality_of b = pick (ltb b locality_count) (LocalityRead.Locality (locality b)) LocalityRead.Bad
+abbrev pub key_of : ℕ → Option Key
+key_of = name_of key key_count
 
-abbrev pub locality_or_none : ℕ → LocalityRead
-locality_or_none b = pick (below_or_none locality_count b) (LocalityRead.Locality (locality b)) LocalityRead.Bad
+abbrev pub key_or_none : ℕ → Option Key
+key_or_none = name_or_none key key_count
 
-abbrev pub variable_of : ℕ → VariableRead
-variable_of b = pick (ltb b variable_count) (VariableRead.Variable (variable b)) VariableRead.Bad
+abbrev pub locality_of : ℕ → Option Locality
+locality_of = name_of locality locality_count
 
-abbrev pub node_of : ℕ → NodeRead
-node_of b = pick (ltb b node_count) (NodeRead.Node (node b)) NodeRead.Bad
+abbrev pub locality_or_none : ℕ → Option Locality
+locality_or_none = name_or_none locality locality_count
+
+abbrev pub variable_of : ℕ → Option Variable
+variable_of = name_of variable variable_count
+
+abbrev pub node_of : ℕ → Option Node
+node_of = name_of node node_count

@@ -1,11 +1,11 @@
--- An action has four fields, so what an out puts past them is blank.
+-- An action has four fields, so what an out puts past them is blank (`fields_filled`).
 -- Assumes nothing.
-use Rattle.std.specs.Prelude.{ℕ, ◌≤◌, ◌≡◌, List, [], ◌∷◌, ltb, length}
-use Rattle.std.proofs.Math.Path.{ap}
-use Rattle.std.proofs.Common.{◌∙◌, arith}
+use Rattle.std.specs.Prelude.{ℕ, ◌<◌, ◌≤◌, ◌≡◌, List, ltb, length, get_or}
+use Rattle.std.proofs.Math.Path.{ap, sym}
+use Rattle.std.proofs.Common.{◌∙◌, arith, ltb-true, ltb-false}
 use Rattle.std.proofs.Math.ListN.{get_or-eq_default}
 use Rattle.laws.specs.Choice.{cases}
-use Rattle.laws.specs.Lists.{tab}
+use Rattle.laws.specs.Lists.{tab, tab_of}
 use Rattle.images.specs.Script.{field0, field_at}
 use Rattle.images.specs.Net.{datum0}
 use Rattle.images.specs.declared.Action.{Action}
@@ -21,7 +21,10 @@ module _ (a : Action) (vars : List Datum) (four : length a.fields ≡ 4) where
       let blank : field_at a j ≡ field0 = get_or-eq_default a.fields field0 {n = j} (omega (arith, four)) in
       ap (λ (f : Field). field_made vars a.count j f) blank ∙ cases (ltb j a.count) (λ t. rw t) (λ t. rw t)
 
-  pub eight_fields : field_made vars a.count 0 (field_at a 0) ∷ field_made vars a.count 1 (field_at a 1) ∷ field_made vars a.count 2 (field_at a 2) ∷ field_made vars a.count 3 (field_at a 3) ∷ datum0 ∷ datum0 ∷ datum0 ∷ datum0 ∷ [] ≡ tab 8 (λ j. field_made vars a.count j (field_at a j))
-  unfolding tab
-  eight_fields =
-      rw (past_fields 4 (omega arith), past_fields 5 (omega arith), past_fields 6 (omega arith), past_fields 7 (omega arith))
+  -- so fields that are made up to the fourth, and unset from there on, are an out's
+  pub fields_filled : (made : List Datum) → length made ≡ 8
+      → ((j : ℕ) → j < 4 → get_or made j datum0 ≡ field_made vars a.count j (field_at a j))
+      → ((j : ℕ) → 4 ≤ j → get_or made j datum0 ≡ datum0) → made ≡ tab 8 (λ j. field_made vars a.count j (field_at a j))
+  fields_filled made eight below past =
+      tab_of 8 _ made datum0 eight
+      (λ j h. cases (ltb j 4) (λ t. below j (ltb-true j 4 t)) (λ f. let h : 4 ≤ j = ltb-false j 4 f in past j h ∙ sym (past_fields j h)))

@@ -2,7 +2,7 @@
 -- A step makes a continuation; an out also a tuple, an eval and a split also a process; a newloc also a locality. Forward steps write these,
 -- acceptance compares what stands there with them, backward steps remove them.
 -- Assumes nothing.
-use Rattle.std.specs.Prelude.{ℕ, List, Bool, true, false, ◌&&◌, ◌||◌, eqb, ltb, leb, set, replicate}
+use Rattle.std.specs.Prelude.{ℕ, List, Bool, true, false, ◌&&◌, ◌||◌, eqb, ltb, leb, set, replicate, Option, Some, None}
 use Rattle.laws.specs.Choice.{pick, ◌⇒◌}
 use Rattle.laws.specs.Lists.{tab}
 use Rattle.names.specs.Names.{none, reference_count, key, locality, node, is_locality}
@@ -19,7 +19,6 @@ use Rattle.images.specs.declared.Datum.{Datum}
 use Rattle.images.specs.declared.Slot.{Slot}
 use Rattle.matching.specs.Evaluate.{actual, target_of, fields_ready}
 use Rattle.matching.specs.Match.{meets, bound, with_variable}
-use Rattle.matching.specs.declared.Target.{Target}
 use Rattle.products.specs.Body.{Body, live_process, live_tuple}
 
 -- ---- kinds: "0 nil, 1 out, 2 in, 3 read, 4 newloc, 5 eval, 6 split, 7 roll"
@@ -63,13 +62,13 @@ has_fields k = is_out k || meets_tuple k
 
 -- ---- a node and its target, from a process's variables
 
-abbrev pub number_of : Target → ℕ
-number_of (Target.At l) = l.0
-number_of Target.Missing = 0
+abbrev pub number_of : Option Locality → ℕ
+number_of (Some l) = l.0
+number_of None = 0
 
-abbrev pub is_found : Target → Bool
-is_found (Target.At l) = true
-is_found Target.Missing = false
+abbrev pub is_found : Option Locality → Bool
+is_found (Some l) = true
+is_found None = false
 
 unfoldable pub target_by : Action → List Datum → ℕ
 target_by a vars = number_of (target_of vars a.target)

@@ -1,24 +1,24 @@
 -- The code's requests and answers: document 01's number of each answer, and a request from its bytes.
 -- In order: `number`, the list of answers and the answer of a number (`answer_of`), which are each other's inverse (`answer_number`, `number_of`,
 -- `number_back`); checks that have an answer's number (`Known`); an answer is done exactly where its number is 0 (`done_number`, `done_zero`), and one
--- of the list (`number_listed`, `listed`); what a call tells that is refused (`refusal`); a request as the definitions take it (`asked`);
--- `read_request`, and a request whose names were read (`request_read`).
+-- of the list (`number_listed`, `listed`); what a call tells that is refused (`refusal`); a code's number and a number's code (`code_number`, `code`,
+-- `code_of`), each other's inverse (`code_back`); a request in numbers (`asked`), the one that six bytes are (`asked_by`, `request_of`), and that both
+-- agree (`asked_back`); `read_request`, and a request whose code and names were read (`request_read`).
 -- Assumes nothing.
-use Rattle.std.specs.Prelude.{ℕ, zero, suc, ◌≤◌, ◌≡◌, refl, ◌⊎◌, List, [], ◌∷◌, Bool, true, false, ◌&&◌, not, eqb, length, get_or}
-use Rattle.std.proofs.Common.{sym, ap, ◌∙◌, inl, inr, arith, eqb-true, eq-eqb, ne_eqb, le-leb}
+use Rattle.std.specs.Prelude.{ℕ, zero, suc, ◌≡◌, refl, ◌⊎◌, List, [], ◌∷◌, Bool, true, false, ◌&&◌, not, eqb, leb, length, get_or, Option, Some, None}
+use Rattle.std.proofs.Common.{sym, ap, ◌∙◌, inl, inr, arith, eqb-true, eq-eqb, ne_eqb}
 use Rattle.laws.specs.Choice.{pick, cases, clash, and_left, and_right}
 use Rattle.std.proofs.lemmas.Bool.{not-true}
+use Rattle.std.proofs.lemmas.Bool.Decides.{nat_tests}
 use Rattle.names.specs.Names.{key, locality, key_of, key_or_none, locality_or_none}
-use Rattle.names.specs.Reads.{key_read, key_or_none_read, locality_or_none_read}
+use Rattle.names.specs.Reads.{read, key_read, key_or_none_read, locality_or_none_read}
 use Rattle.names.specs.declared.Key.{Key}
 use Rattle.names.specs.declared.Locality.{Locality}
-use Rattle.names.specs.declared.KeyRead.TheVariants as KeyRead
-use Rattle.names.specs.declared.LocalityRead.TheVariants as LocalityRead
 use Rattle.names.specs.Localities.{localities}
 use Rattle.requests.specs.Checks as C
 use Rattle.requests.specs.Answers as A
+use Rattle.requests.specs.declared.Code.{Code}
 use Rattle.requests.specs.declared.Request.{Request}
-use Rattle.requests.specs.declared.RequestRead.{RequestRead}
 use Rattle.requests.specs.declared.Answer.{Answer}
 use Rattle.requests.specs.declared.Told.{Told}
 
@@ -171,16 +171,47 @@ refusal a = record { answer = a; undone = 0; touched = localities 0 }
 
 -- ---- requests
 
--- its six bytes as numbers
+-- "Codes: 0 forward, 1 backward, 2 rollback of the named event, 3 roll by the named live process."
+abbrev pub code_number : Code → ℕ
+code_number Code.Forward = 0
+code_number Code.Backward = 1
+code_number Code.Rollback = 2
+code_number Code.Roll = 3
+
+-- the code with this number; a number above 3 stands with the last
+abbrev pub code : ℕ → Code
+code b = pick (eqb b 0) Code.Forward (pick (eqb b 1) Code.Backward (pick (eqb b 2) Code.Rollback Code.Roll))
+
+abbrev pub code_of : ℕ → Option Code
+code_of b = pick (leb b 3) (Some (code b)) None
+
+pub code_back : (b : ℕ) → leb b 3 ≡ true → code_number (code b) ≡ b
+code_back b h = grind (arith, nat_tests)
+
+pub code_read : (b : ℕ) (c : Code) → Some c ≡ code_of b → (c ≡ code b) × (leb b 3 ≡ true)
+code_read b c e = read (leb b 3) (code b) c e
+
+-- a request in numbers
 abbrev pub asked : Request → A.Request
 asked r =
-    record { code = r.code; key = r.key.0; used = r.used.0; first = r.first.0; second = r.second.0; place = r.place.0 }
+    record { code = code_number r.code; key = r.key.0; used = r.used.0; first = r.first.0; second = r.second.0; place = r.place.0 }
 
 -- "Six bytes: code, key, tuple key, first and second fresh key, fresh locality."
+abbrev pub asked_by : List ℕ → A.Request
+asked_by b =
+    record {
+      code = get_or b 0 0;
+      key = get_or b 1 0;
+      used = get_or b 2 0;
+      first = get_or b 3 0;
+      second = get_or b 4 0;
+      place = get_or b 5 0;
+    }
+
 abbrev pub request_of : List ℕ → Request
 request_of b =
     record {
-      code = get_or b 0 0;
+      code = code (get_or b 0 0);
       key = key (get_or b 1 0);
       used = key (get_or b 2 0);
       first = key (get_or b 3 0);
@@ -188,27 +219,35 @@ request_of b =
       place = locality (get_or b 5 0);
     }
 
--- 3: "request not 6 bytes; code above 3; key above 63; others neither 255 nor in range"
-unfoldable pub read_request : List ℕ → RequestRead
-read_request b =
-    pick (eqb (length b) 6) (pick (A.in_range (asked (request_of b))) (RequestRead.Request (request_of b)) RequestRead.Bad) RequestRead.Bad
+-- in range it asks what its bytes do
+pub asked_back : (b : List ℕ) → A.in_range (asked_by b) ≡ true → asked (request_of b) ≡ asked_by b
+unfolding A.in_range
+asked_back b h =
+    let c = code_back (get_or b 0 0) (and_left (leb (get_or b 0 0) 3) _ h) in
+    (λ i. record { code = c i; key = get_or b 1 0; used = get_or b 2 0; first = get_or b 3 0; second = get_or b 4 0; place = get_or b 5 0 })
 
--- the names that were read are the request's
-pub request_read : (b : List ℕ) (k u f s : Key) (p : Locality) → length b ≡ 6 → get_or b 0 0 ≤ 3 → KeyRead.Key k ≡ key_of (get_or b 1 0)
-    → KeyRead.Key u ≡ key_or_none (get_or b 2 0) → KeyRead.Key f ≡ key_or_none (get_or b 3 0) → KeyRead.Key s ≡ key_or_none (get_or b 4 0)
-    → LocalityRead.Locality p ≡ locality_or_none (get_or b 5 0)
-    → RequestRead.Request (record { code = get_or b 0 0; key = k; used = u; first = f; second = s; place = p }) ≡ read_request b
+-- 3: "request not 6 bytes; code above 3; key above 63; others neither 255 nor in range"
+unfoldable pub read_request : List ℕ → Option Request
+read_request b =
+    pick (eqb (length b) 6) (pick (A.in_range (asked_by b)) (Some (request_of b)) None) None
+
+-- the code and the names that were read are the request's
+pub request_read : (b : List ℕ) (c : Code) (k u f s : Key) (p : Locality) → length b ≡ 6 → Some c ≡ code_of (get_or b 0 0)
+    → Some k ≡ key_of (get_or b 1 0) → Some u ≡ key_or_none (get_or b 2 0) → Some f ≡ key_or_none (get_or b 3 0)
+    → Some s ≡ key_or_none (get_or b 4 0) → Some p ≡ locality_or_none (get_or b 5 0)
+    → Some (record { code = c; key = k; used = u; first = f; second = s; place = p }) ≡ read_request b
 unfolding read_request A.in_range
-request_read b k u f s p six code is-k is-u is_f is-s is-p =
+request_read b c k u f s p six is_c is-k is-u is_f is-s is-p =
+    let code-there = code_read (get_or b 0 0) c is_c in
     let key-there = key_read (get_or b 1 0) k is-k in
     let used-there = key_or_none_read (get_or b 2 0) u is-u in
     let first_there = key_or_none_read (get_or b 3 0) f is_f in
     let second_there = key_or_none_read (get_or b 4 0) s is-s in
     let place_there = locality_or_none_read (get_or b 5 0) p is-p in
-    rw (eq-eqb (length b) 6 six, le-leb (get_or b 0 0) 3 code, key-there.1, used-there.1, first_there.1, second_there.1, place_there.1)
+    rw (eq-eqb (length b) 6 six, code-there.1, key-there.1, used-there.1, first_there.1, second_there.1, place_there.1)
     (λ i.
-    RequestRead.Request (record {
-      code = get_or b 0 0;
+    Some (record {
+      code = code-there.0 i;
       key = key-there.0 i;
       used = used-there.0 i;
       first = first_there.0 i;

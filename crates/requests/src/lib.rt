@@ -1,15 +1,42 @@
 // A request, as its six bytes say, and what a call tells: the answers that it may give, and the numbers beside them.
 #![tactic(auto)]
 
-ghost use Rattle.std.specs.Prelude.{◌≡◌};
-ghost use Rattle.requests.specs.Requests.{number, refusal, read_request};
+ghost use Rattle.std.specs.Prelude.{◌≡◌, Some};
+ghost use Rattle.requests.specs.Text.{told_text};
+ghost use Rattle.requests.specs.Requests.{number, refusal, code_of, read_request};
 
-use names::{Key, KeyRead, Localities, Locality, LocalityRead};
+use names::{Key, Localities, Locality, Name};
+use std::fmt;
 
-// What a call is asked: codes 0 forward, 1 backward, 2 rollback, 3 roll. A place that the code has no need for is none.
+// What a call does, in the order of the codes' bytes.
+#[derive(Clone, Copy, PartialEq, Eq)]
+pub enum Code {
+    Forward,
+    Backward,
+    // Of the named event.
+    Rollback,
+    // By the named live process.
+    Roll,
+}
+
+impl Code {
+    pub fn of_byte(b: u8) -> Option<Code>
+        ensures { result ≡ code_of b }
+    {
+        match b {
+            0 => Some(Code::Forward),
+            1 => Some(Code::Backward),
+            2 => Some(Code::Rollback),
+            3 => Some(Code::Roll),
+            _ => None,
+        }
+    }
+}
+
+// What a call is asked. A place that the code has no need for is none.
 #[derive(Clone, Copy)]
 pub struct Request {
-    pub code: u8,
+    pub code: Code,
     pub key: Key,
     // The tuple that an in or a read meets.
     pub used: Key,
@@ -21,25 +48,10 @@ pub struct Request {
 
 impl Request {
     pub const SIZE: usize = 6;
-
-    pub const FORWARD: u8 = 0;
-
-    pub const BACKWARD: u8 = 1;
-
-    pub const ROLLBACK: u8 = 2;
-
-    pub const ROLL: u8 = 3;
-}
-
-#[derive(Clone, Copy)]
-pub enum RequestRead {
-    Request(Request),
-    // Not six bytes, or a name out of its range.
-    Bad,
 }
 
 // Document 01's table, in its order.
-#[derive(Clone, Copy)]
+#[derive(Clone, Copy, PartialEq, Eq)]
 pub enum Answer {
     Done,
     // The script's length or form.
@@ -66,7 +78,8 @@ pub enum Answer {
     NotUndoable,
 }
 
-// What a call tells beside the net: its answer, how many events were undone, and the localities at which a slot became free.
+// What a call tells beside the net: its answer, how many events were undone, and the localities at which a slot became free. No Result: document 01
+// gives both numbers with every answer.
 #[derive(Clone, Copy)]
 pub struct Told {
     pub answer: Answer,
@@ -75,23 +88,40 @@ pub struct Told {
 }
 
 // Document 01's number of the answer.
-pub fn number(a: Answer) -> u8
-    ensures { result ≡ number a }
-{
-    match a {
-        Answer::Done => 0,
-        Answer::BadScript => 1,
-        Answer::BadNet => 2,
-        Answer::BadRequest => 3,
-        Answer::WrongProcess => 4,
-        Answer::WrongNode => 5,
-        Answer::WrongPlaces => 6,
-        Answer::Unset => 7,
-        Answer::TargetAbsent => 8,
-        Answer::NoTuple => 9,
-        Answer::NoMatch => 10,
-        Answer::NotFresh => 11,
-        Answer::NotUndoable => 12,
+impl From<Answer> for u8 {
+    ghost from_gives = { λ a n. n ≡ number a };
+
+    fn from(a: Answer) -> u8 {
+        match a {
+            Answer::Done => 0,
+            Answer::BadScript => 1,
+            Answer::BadNet => 2,
+            Answer::BadRequest => 3,
+            Answer::WrongProcess => 4,
+            Answer::WrongNode => 5,
+            Answer::WrongPlaces => 6,
+            Answer::Unset => 7,
+            Answer::TargetAbsent => 8,
+            Answer::NoTuple => 9,
+            Answer::NoMatch => 10,
+            Answer::NotFresh => 11,
+            Answer::NotUndoable => 12,
+        }
+    }
+}
+
+// The answer's number, undone in decimal and touched as 8 lower-case hex digits.
+impl fmt::Display for Told {
+    ghost output = { λ t. Some (told_text t) };
+
+    fn fmt<W: fmt::Write>(&self, f: &mut fmt::Formatter<W>) -> fmt::Result {
+        write!(
+            f,
+            "{} {} {:08x}",
+            u8::from(self.answer),
+            self.undone,
+            self.touched.0
+        )
     }
 }
 
@@ -106,37 +136,20 @@ pub fn refused(answer: Answer) -> Told
     }
 }
 
-// Any byte string: the request that it is, or a refusal.
-pub fn read_request(b: &[u8]) -> RequestRead
+// The request that a byte string is; none where it is not six bytes or a name is out of its range.
+#[tactic(auto, unfolding(crate::specs::Requests::read_request, crate::specs::Answers::in_range))]
+pub fn read_request(b: &[u8]) -> Option<Request>
     ensures { result ≡ read_request b.now }
 {
     if b.len() != Request::SIZE {
-        return RequestRead::Bad;
+        return None;
     }
-    if Request::ROLL < b[0] {
-        return RequestRead::Bad;
-    }
-    let KeyRead::Key(key) = Key::of_byte(b[1]) else {
-        return RequestRead::Bad;
-    };
-    let KeyRead::Key(used) = Key::or_none(b[2]) else {
-        return RequestRead::Bad;
-    };
-    let KeyRead::Key(first) = Key::or_none(b[3]) else {
-        return RequestRead::Bad;
-    };
-    let KeyRead::Key(second) = Key::or_none(b[4]) else {
-        return RequestRead::Bad;
-    };
-    let LocalityRead::Locality(place) = Locality::or_none(b[5]) else {
-        return RequestRead::Bad;
-    };
-    RequestRead::Request(Request {
-        code: b[0],
-        key,
-        used,
-        first,
-        second,
-        place,
+    Some(Request {
+        code: Code::of_byte(b[0])?,
+        key: Key::of_byte(b[1])?,
+        used: Key::or_none(b[2])?,
+        first: Key::or_none(b[3])?,
+        second: Key::or_none(b[4])?,
+        place: Locality::or_none(b[5])?,
     })
 }

@@ -1,10 +1,10 @@
 -- The text of an answer. Document 01: "prints a line each: answer, undone in decimal, touched as 8 lower-case hex digits".
 -- In order: a number below 100 (`decimal`), as an answer's is (`number_short`), a hex digit (`hex_digit`), four and eight of them (`hex_four`, `hex_word`); the numbers beside an answer
--- (`numbers_of`), a line (`line_of`), which is short (`line_short`), and one whose numbers are 0 (`line_nothing`); what putting bytes into an output
--- leaves (`Puts`), of one byte (`puts_one`) and of bytes after bytes (`puts_more`).
+-- (`numbers_of`), a line (`line_of`), which is short (`line_short`), and one whose numbers are 0
+-- (`line_nothing`); bytes put behind others (`Puts`), and more behind these (`puts_more`).
 -- Assumes nothing.
-use Rattle.std.specs.Prelude.{ℕ, ◌+◌, ◌/◌, ◌%◌, ◌<◌, ◌≤◌, ◌≡◌, refl, Bool, true, false, ◌&&◌, List, [], ◌∷◌, ◌++◌, ltb, eqb, length, take, set}
-use Rattle.std.proofs.Common.{sym, ap, ◌∙◌, subst, append_assoc, add_assoc, add-one, arith, length-append, length-set, take-suc-set, eqb-true, ltb-true}
+use Rattle.std.specs.Prelude.{ℕ, ◌+◌, ◌/◌, ◌%◌, ◌<◌, ◌≤◌, ◌≡◌, refl, Bool, true, false, ◌&&◌, List, [], ◌∷◌, ◌++◌, ltb, eqb, length}
+use Rattle.std.proofs.Common.{sym, ap, ◌∙◌, subst, append_assoc, arith, length-append, eqb-true, ltb-true}
 use Rattle.laws.specs.Choice.{pick, cases, clash, and_left, and_right}
 use Rattle.requests.specs.Requests.{number, answers, is_number, number_listed}
 use Rattle.requests.specs.declared.Answer.{Answer}
@@ -51,6 +51,10 @@ line_of t = decimal (number t.answer) ++ numbers_of t.undone t.touched.0
 abbrev pub line_size : ℕ
 line_size = 15
 
+-- what the output has room for: 4,096 lines
+abbrev pub output_room : ℕ
+output_room = 61440
+
 -- nothing was undone or touched
 abbrev pub tells_nothing : Told → Bool
 tells_nothing t = eqb t.undone 0 && eqb t.touched.0 0
@@ -61,29 +65,19 @@ decimal_short n = cases (ltb n 10) (λ h. rw h (omega arith)) (λ h. rw h (omega
 
 -- ---- what is put
 
--- the bytes stand behind the first `at` bytes of the output, and end at `end`
-pub record Puts (before : List ℕ) (at : ℕ) (after : List ℕ) (end : ℕ) (bs : List ℕ) : Type 0 where
-  pub kept : length after ≡ length before
-  pub ends : end ≡ at + length bs
-  pub front : take end after ≡ take at before ++ bs
+-- the bytes were put behind those before
+pub record Puts (before after bs : List ℕ) : Type 0 where
+  pub text : after ≡ before ++ bs
 
-pub puts_one : (xs : List ℕ) (at b : ℕ) → at < length xs → Puts xs at (set xs at b) (at + 1) (b ∷ [])
-puts_one xs at b h = record { kept = length-set xs at b; ends = refl; front = rw (add-one at) (take-suc-set xs at b h) }
+pub puts_more : {xs ys zs us vs : List ℕ} → Puts xs ys us → Puts ys zs vs → Puts xs zs (us ++ vs)
+puts_more {xs = xs} {us = us} {vs = vs} p q = record { text = q.text ∙ ap (λ (l : List ℕ). l ++ vs) p.text ∙ append_assoc xs us vs }
 
-module _ {xs : List ℕ} {a : ℕ} where
-  pub puts_more : {ys zs : List ℕ} {b c : ℕ} {us vs : List ℕ} → Puts xs a ys b us → Puts ys b zs c vs → Puts xs a zs c (us ++ vs)
-  puts_more {us = us} {vs = vs} p q =
-      record {
-        kept = q.kept ∙ p.kept;
-        ends =
-            q.ends ∙ ap (λ (k : ℕ). k + length vs) p.ends ∙ add_assoc a (length us) (length vs) ∙
-            ap (λ (k : ℕ). a + k) (sym (length-append us vs));
-        front = q.front ∙ ap (λ (l : List ℕ). l ++ vs) p.front ∙ append_assoc (take a xs) us vs;
-      }
+-- the same bytes, known otherwise
+pub puts_same : {xs ys us vs : List ℕ} → us ≡ vs → Puts xs ys us → Puts xs ys vs
+puts_same {xs = xs} {ys = ys} e p = subst (Puts xs ys) e p
 
-  -- the same bytes, known otherwise
-  pub puts_same : {ys : List ℕ} {b : ℕ} {us vs : List ℕ} → us ≡ vs → Puts xs a ys b us → Puts xs a ys b vs
-  puts_same {ys = ys} {b = b} e p = subst (Puts xs a ys b) e p
+pub puts_length : {xs ys us : List ℕ} → Puts xs ys us → length ys ≡ length xs + length us
+puts_length {xs = xs} {us = us} p = ap length p.text ∙ length-append xs us
 
 pub length_four : (w : ℕ) → length (hex_four w) ≡ 4
 unfolding hex_four

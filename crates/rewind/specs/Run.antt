@@ -3,16 +3,15 @@
 -- undoes few (`reply_few`), so the next request finds them good (`answered_held`); the code's output and net against the run (`run_of`): what one
 -- request puts there (`one_more`), the loop's first and next turn (`run_first`, `run_next`).
 -- Assumes nothing.
-use Rattle.std.specs.Prelude.{ℕ, zero, suc, ◌+◌, ◌-◌, ◌*◌, ◌<◌, ◌≤◌, ◌≡◌, refl, List, [], ◌++◌, eqb, take, drop}
+use Rattle.std.specs.Prelude.{ℕ, zero, suc, ◌+◌, ◌*◌, ◌<◌, ◌≤◌, ◌≡◌, refl, List, [], ◌++◌, eqb, length, take, drop}
 use Rattle.std.proofs.Common.{sym, ap, ◌∙◌, subst, add-one, arith, eqb-true}
 use Rattle.std.proofs.lemmas.Bool.{eqb-false}
 use Rattle.laws.specs.Choice.{cases}
-use Rattle.laws.specs.Parts.{part_size}
 use Rattle.requests.specs.Requests.{number}
 use Rattle.machine.specs.Calls.{reply}
 use Rattle.machine.specs.Bytes.{Held, left, doing, next_held, next_undone}
 use Rattle.requests.specs.declared.Told.{Told}
-use Rattle.rewind.specs.Lines.{line_of, line_short, Puts}
+use Rattle.rewind.specs.Lines.{line_of, line_short, Puts, puts_length}
 
 -- ---- requests one after the other
 
@@ -69,27 +68,25 @@ answered_held S N b h (suc k) = reply_held S (answered S N b k).net (request_at 
 
 -- ---- the code against the run
 
--- the lines that fill an output up to an end, and the net
-abbrev pub run_of : List ℕ → ℕ → List ℕ → Run
-run_of out end net = record { text = take end out; net = net }
+-- the lines that an output holds, and the net
+abbrev pub run_of : List ℕ → List ℕ → Run
+run_of out net = record { text = out; net = net }
 
--- the output after one request more, whose line was put at `at`, and the net that it left
-pub one_more : (S N q xs ys : List ℕ) (at end : ℕ) (t : Told) (last : List ℕ) → t ≡ (reply S N q).told → last ≡ (reply S N q).net → Puts xs at ys end (line_of t)
-    → (run_of ys end last ≡ next S (run_of xs at N) q) × (end ≤ at + 15)
-one_more S N q xs ys at end t last is-t is_last p =
-    let text : take end ys ≡ take at xs ++ line_of (reply S N q).told = p.front ∙ ap (λ (z : Told). take at xs ++ line_of z) is-t in (
+-- the output after one request more, and the net that it left
+pub one_more : (S N q xs ys : List ℕ) (t : Told) (last : List ℕ) → t ≡ (reply S N q).told → last ≡ (reply S N q).net → Puts xs ys (line_of t)
+    → (run_of ys last ≡ next S (run_of xs N) q) × (length ys ≤ length xs + 15)
+one_more S N q xs ys t last is-t is_last p =
+    let text : ys ≡ xs ++ line_of (reply S N q).told = p.text ∙ ap (λ (z : Told). xs ++ line_of z) is-t in (
       λ i. record { text = text i; net = is_last i },
-      omega (arith, p.ends, line_short t),
+      omega (arith, puts_length p, line_short t),
     )
 
-pub run_first : (S N b out : List ℕ) → run_of out 0 N ≡ answered S N b 0
+pub run_first : (S N b : List ℕ) → run_of [] N ≡ answered S N b 0
 unfolding answered
-run_first S N b out = refl
+run_first S N b = refl
 
--- a turn of the loop over a chunk, whose part k was lent as `&b[at..at + 6]`
-pub run_next : (S N b : List ℕ) (k : ℕ) (a z : Run) → a ≡ answered S N b k → z ≡ next S a (take (k * 6 + 6 - k * 6) (drop (k * 6) b))
-    → z ≡ answered S N b (k + 1)
+-- a turn of the loop over the requests of a chunk
+pub run_next : (S N b : List ℕ) (k : ℕ) (q : List ℕ) (a z : Run) → q ≡ request_at b k → a ≡ answered S N b k → z ≡ next S a q → z ≡ answered S N b (k + 1)
 unfolding answered
-run_next S N b k a z e g =
-    rw (add-one k)
-    (g ∙ ap (λ (c : ℕ). next S a (take c (drop (k * 6) b))) (part_size (k * 6) 6) ∙ ap (λ (y : Run). next S y (request_at b k)) e)
+run_next S N b k q a z h e g =
+    rw (add-one k) (g ∙ ap (next S a) h ∙ ap (λ (y : Run). next S y (request_at b k)) e)

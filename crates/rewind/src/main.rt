@@ -7,45 +7,33 @@ ghost use Rattle.machine.specs.Calls.{GoodImages};
 ghost use Rattle.rewind.specs.Lines.{line_size};
 ghost use Rattle.rewind.specs.Run.{request_size, request_room, run_of, answered};
 
-use images::{net_image, script_image};
-use lines::{LINE, put_line, put_refusal};
+use arrayvec::ArrayVec;
+use images::net_image::{self, NetBytes};
+use images::script_image::{self, ScriptBytes};
+use lines::{LINES, Output, put_line};
 use machine::{call_on, image_answer};
-use requests::{Answer, Request};
+use requests::{Answer, Request, refused};
 use std::io::Read;
-use step::Check;
-use step::checks::all_hold;
 use streams::read_full;
 
 mod lines;
 
-// How many requests are answered at a time, and room for their bytes and for their lines.
-const REQUESTS: usize = 4096;
-
-const INPUT_ROOM: usize = REQUESTS * Request::SIZE;
-
-const OUTPUT_ROOM: usize = REQUESTS * LINE;
+// Room for the bytes of as many requests as the output has lines: so many are answered at a time.
+const INPUT_ROOM: usize = LINES * Request::SIZE;
 
 // ---- requests that have arrived
 
-// All whole requests of a chunk, in their order, each on the net that the one before it left; their lines go to the front of the output. Where
-// they end.
-fn answer_chunk(script: &[u8], net: &mut [u8], requests: &[u8], out: &mut [u8]) -> usize
+// All whole requests of a chunk, in their order, each on the net that the one before it left; the output then holds their lines.
+fn answer_chunk(script: &ScriptBytes, net: &mut NetBytes, requests: &[u8], out: &mut Output)
     requires good_images { GoodImages script.now net.old }
-    requires room { line_size * (length requests.now / request_size) ≤ length out.old }
-    ensures run { run_of out.new result net.new ≡ answered script.now net.old requests.now (length requests.now / request_size) }
-    ensures within { result ≤ length out.new }
+    requires room { length requests.now / request_size ≤ request_room }
+    ensures run { run_of out.new.items net.new ≡ answered script.now net.old requests.now (length requests.now / request_size) }
     ensures good_images { GoodImages script.now net.new }
 {
-    let count = requests.len() / Request::SIZE;
-    let mut end: usize = 0;
-    let mut k: usize = 0;
-    while k < count {
-        let at = k * Request::SIZE;
-        let t = call_on(script, net, &requests[at..at + Request::SIZE]);
-        end = put_line(t, out, end);
-        k += 1;
+    out.clear();
+    for request in requests.as_chunks::<{ Request::SIZE }>().0 {
+        put_line(call_on(script, net, request), out);
     }
-    end
 }
 
 // ---- the stream
@@ -58,32 +46,27 @@ fn keep_rest(input: &mut [u8], whole: usize) -> usize
 {
     let rest = whole % Request::SIZE;
     let from = whole - rest;
-    let mut i: usize = 0;
-    while i < rest {
+    for i in 0..rest {
         input[i] = input[from + i];
-        i += 1;
     }
     rest
 }
 
 // What has arrived of the input, put behind the first `have` bytes; how many bytes there are then. None more is the end of the input, and so is
-// a read that fails.
+// a read that fails. The count stands beside the room, since `read` wants bytes that are there.
 fn read_more(source: &mut impl Read, input: &mut [u8], have: usize) -> usize
     requires { have ≤ length input.old }
     ensures count { (have ≤ result) × (result ≤ length input.new) }
     ensures kept { take have input.new ≡ take have input.old }
 {
-    let room = input.len();
-    have + source.read(&mut input[have..room]).unwrap_or(0)
+    have + source.read(&mut input[have..]).unwrap_or(0)
 }
 
 // The line of a refusal; the program ends after it, so nobody asks whether it was written.
 fn print_refusal(rt: &impl Print, answer: Answer) {
-    let mut space = [0u8; LINE];
-    let out: &mut [u8] = &mut space;
-    let end = put_refusal(answer, out, 0);
-    let text = &out[..];
-    let _ = rt.write_all(&text[0..end]);
+    let mut out: Output = ArrayVec::new();
+    put_line(refused(answer), &mut out);
+    let _ = rt.write_all(out.as_slice());
 }
 
 // "1 to 5 bytes left over count as a request of wrong length."
@@ -94,61 +77,38 @@ fn print_rest(rt: &impl Print, rest: usize) {
 }
 
 // Requests as they arrive: all whole ones are answered, and their lines written, before the next read. An output that takes no more ends the run.
-// The count of turns is one that no run comes to.
-fn answer_all(
-    rt: &impl Print,
-    source: &mut impl Read,
-    script: &[u8],
-    net: &mut [u8],
-    input: &mut [u8],
-    out: &mut [u8],
-)
-    requires good_images { GoodImages script.now net.old }
-    requires rooms { (length input.old ≡ request_room * request_size) × (length out.old ≡ request_room * line_size) }
+// There are more turns than any run comes to. Script and net, and that they are good, come as in `step`.
+fn answer_all(rt: &impl Print, source: &mut impl Read, script: &ScriptBytes, net: &mut NetBytes)
+    requires { GoodImages script.now net.old }
 {
+    let mut input = [0u8; INPUT_ROOM];
+    let mut out: Output = ArrayVec::new();
     let mut have: usize = 0;
-    let mut turns: u64 = 18446744073709551615;
-    while 0 < turns {
-        let whole = read_more(source, input, have);
+    for _ in 0..u64::MAX {
+        let whole = read_more(source, &mut input, have);
         if whole == have {
             print_rest(rt, have);
             return;
         }
-        let end = answer_chunk(script, net, &input[0..whole], out);
-        if rt.write_all(&out[0..end]).is_err() {
+        answer_chunk(script, net, &input[..whole], &mut out);
+        if rt.write_all(out.as_slice()).is_err() {
             return;
         }
-        have = keep_rest(input, whole);
-        turns -= 1;
+        have = keep_rest(&mut input, whole);
     }
 }
 
 // "A bad script or net prints one such line and ends." One whose read fails has not its length, and is bad.
 fn main(rt: HostRuntime) {
     let mut source = rt.stdin();
-    let mut script_space = [0u8; script_image::SIZE];
-    let script: &mut [u8] = &mut script_space;
-    let script_length = read_full(&mut source, script).unwrap_or(0);
-    let mut net_space = [0u8; net_image::SIZE];
-    let net: &mut [u8] = &mut net_space;
-    let net_length = read_full(&mut source, net).unwrap_or(0);
-    let script_read = &script[..];
-    let net_read = &net[..];
-    let answer = image_answer(&script_read[0..script_length], &net_read[0..net_length]);
-    let Check::Holds = all_hold(answer) else {
+    let mut script = [0u8; script_image::SIZE];
+    let mut net = [0u8; net_image::SIZE];
+    let script_length = read_full(&mut source, &mut script).unwrap_or(0);
+    let net_length = read_full(&mut source, &mut net).unwrap_or(0);
+    let answer = image_answer(&script[..script_length], &net[..net_length]);
+    if answer != Answer::Done {
         print_refusal(&rt, answer);
         return;
-    };
-    let mut input_space = [0u8; INPUT_ROOM];
-    let input: &mut [u8] = &mut input_space;
-    let mut output_space = [0u8; OUTPUT_ROOM];
-    let out: &mut [u8] = &mut output_space;
-    answer_all(
-        &rt,
-        &mut source,
-        &script_read[0..script_length],
-        &mut net[0..net_length],
-        input,
-        out,
-    );
+    }
+    answer_all(&rt, &mut source, &script, &mut net);
 }

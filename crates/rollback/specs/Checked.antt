@@ -1,16 +1,17 @@
 -- The checks of a rollback and a roll as the code makes them, on the slot of the named key and its node; and that they are the checks of
 -- `requests`, of the net that the slot is from.
--- In order: the key that a node's reference holds (`held_by`); the checks in their order (`rollback_tests`, `roll_tests`); a refusal by the second check
--- (`second_fails`); that they are document 01's (`rollback_checked`, `roll_checked`); what a done rollback and roll say of the event
--- (`rollback_event`, `roll_event`, `roll_held`). The same from what was looked up is in proofs/Checked.
+-- In order: the key that a node's reference holds (`held_by`); the checks in their order (`rollback_tests`, `roll_tests`), and what they answer
+-- (`answered`, `answered_yes`, `answered_no`); a refusal by the second check (`second_fails`); that they are document 01's (`rollback_checked`,
+-- `roll_checked`); what a done rollback and roll say of the event (`rollback_event`, `roll_event`, `roll_held`). The same from what was looked up is in
+-- proofs/Checked.
 -- Assumes nothing.
 use Prim.Native.Nat.{ℕ, zero, suc, ◌<◌}
 use Rattle.std.proofs.Common.{le_of_suc-le-suc, not-suc-le-zero, ◌∙◌, arith}
-use Rattle.std.specs.Prelude.{◌≡◌, Bool, not, ◌&&◌, List, [], ◌∷◌, eqb, ltb, length, get_or}
+use Rattle.std.specs.Prelude.{◌≡◌, Bool, not, ◌&&◌, List, [], ◌∷◌, eqb, ltb, length, get_or, Result, Ok, Err}
 use Rattle.std.proofs.Math.Path.{refl, sym, ap, subst}
 use Rattle.std.proofs.Math.Bool.{true, false}
 use Rattle.std.proofs.lemmas.Bool.{false≢true}
-use borrow.Author.Tests.{eqb-true, eqb-false, eq-eqb, ltb-true, not-true}
+use borrow.Author.Tests.{eqb-true, eqb-false, eq-eqb, ne_eqb, ltb-true, not-true}
 use Rattle.laws.specs.Choice.{pick, cases, and_left, and_right, and_both}
 use Rattle.laws.specs.Checks.{all, all_at}
 use Rattle.order.specs.KeySets.{◌∈◌, any, any_of}
@@ -38,8 +39,9 @@ use Rattle.rules.specs.Theorems.{reference_held}
 use Rattle.requests.specs.Checks as C
 use Rattle.requests.specs.Checks.{check, refusal, all_hold}
 use Rattle.requests.specs.Answers.{no_places, rollback_checks, roll_checks}
-use Rattle.requests.specs.Requests.{asked, is_done, answer_of}
+use Rattle.requests.specs.Requests.{asked, is_done, answer_of, done_number}
 use Rattle.requests.specs.declared.Request.{Request}
+use Rattle.requests.specs.declared.Answer.{Answer}
 use Rattle.step.specs.Lent.{Good}
 use Rattle.step.specs.Tested.{kind_is, node_is, no_node}
 use Rattle.step.specs.Laws.{done_zero}
@@ -65,6 +67,22 @@ rollback_tests a x r = check 4 (eqb x.kind 2) ∷ check 5 (not (is_split a.kind)
 unfoldable pub roll_tests : Action → Image.Slot → Key → Request → List C.Check
 roll_tests a x e r =
     check 4 (eqb x.kind 1) ∷ check 5 (is_roll a.kind) ∷ check 6 (no_places (asked r)) ∷ check 7 (is_held e) ∷ []
+
+-- what checks answer: v where none refuses, and otherwise the answer with the number of the first that does
+unfoldable pub answered : {A : Type 0} → A → ℕ → Result A Answer
+answered v zero = Ok v
+answered v (suc k) = Err (answer_of (suc k))
+
+module _ {A : Type 0} (v : A) where
+  pub answered_yes : (k : ℕ) (u : A) → Ok u ≡ answered v k → (is_done (answer_of k) ≡ true) × (u ≡ v)
+  unfolding answered
+  answered_yes zero u e = (refl, cc)
+  answered_yes (suc k) u e = cc
+
+  pub answered_no : (k : ℕ) (o : Answer) → Err o ≡ answered v k → (is_done o ≡ false) × (o ≡ answer_of k)
+  unfolding answered
+  answered_no zero o e = cc
+  answered_no (suc k) o e = let is : o ≡ answer_of (suc k) = cc in (ap is_done is ∙ done_number (suc k) ∙ ne_eqb (suc k) 0 (λ z. omega (arith, z)), is)
 
 -- a refusal by the second check does not look further
 second_fails : (b c d e : Bool) (cs ds : List C.Check) → b ≡ c → d ≡ false → e ≡ false → refusal (check 4 b ∷ check 5 d ∷ cs) ≡ refusal (check 4 c ∷ check 5 e ∷ ds)

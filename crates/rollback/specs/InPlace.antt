@@ -4,7 +4,7 @@
 -- (`walk_form`, `walk_good`); the walk goes on (`walk_on`), with fewer to come (`walk_less`); it undoes one (`walk_undoable`, `walk_few`) and begins anew (`walk_next`, `walk_anew`), or is at its
 -- end (`walk_done`); the same of an equal set (`gives_same`).
 -- Assumes nothing.
-use Rattle.std.specs.Prelude.{ℕ, ◌+◌, ◌*◌, ◌-◌, ◌<◌, ◌≡◌, true, List, [], ◌∷◌, ◌++◌}
+use Rattle.std.specs.Prelude.{ℕ, ◌+◌, ◌*◌, ◌-◌, ◌<◌, ◌≡◌, true, List, [], ◌∷◌, ◌++◌, Option, Some, None}
 use Rattle.std.proofs.Common.{arith, sym, ap, ◌∙◌, subst}
 use Rattle.std.specs.Int.Bits.{bit_or}
 use Rattle.order.specs.KeySets.{Set, ◌∈◌, count, count_le}
@@ -27,7 +27,6 @@ use Rattle.step.specs.Change.{Change, applied}
 use Rattle.step.specs.Backward.{undone_at}
 use Rattle.step.specs.InPlace.{change_bytes, change_bytes_lem}
 use Rattle.step.specs.Way.{way_of}
-use Rattle.step.specs.declared.backward.Way.{Way}
 use Rattle.rollback.specs.Rollback.{undone_all, rolled_back}
 use Rattle.rollback.specs.Undone.{Rolled, rolled_first, net_accepted, met_first, met_next, met_less, met_few, met_undoable, rolled_next, still_stands, rolled_all, last_in}
 
@@ -70,10 +69,10 @@ module _ (s : Script) (w : ShapedScript s) (n : Net) (good : Good s n) (e : Key)
           accepted = net_accepted s w n good e past turn freed g.ks m g.here.rolled;
         }
 
-    module _ (way : Way) (is-way : way ≡ way_of s m k) where
+    module _ (way : Option Key) (is-way : way ≡ way_of s m k) where
       -- ---- one is in the way
 
-      module _ (f : Key) (behind : way ≡ Way.Behind f) where
+      module _ (f : Key) (behind : way ≡ Some f) where
         pub walk_on : Walking turn freed f b
         walk_on =
             record {
@@ -88,7 +87,7 @@ module _ (s : Script) (w : ShapedScript s) (n : Net) (good : Good s n) (e : Key)
 
       -- ---- none is
 
-      module _ (clear : way ≡ Way.Clear) where
+      module _ (clear : way ≡ None) where
         pub walk_undoable : Undoable (view s m) k.0
         walk_undoable = met_undoable s w n good e past turn freed g.ks m g.here.rolled g.stands k g.met (sym is-way ∙ clear)
 

@@ -6,7 +6,7 @@
 -- (`met_undoable`), fewer were undone than there are keys (`met_few`), and one more is (`rolled_next`), the event itself still standing if it was another (`still_stands`); once
 -- the event itself is undone, all is done (`rolled_all`).
 -- Assumes nothing.
-use Rattle.std.specs.Prelude.{◌≡◌, refl, Bool, true, false, ◌||◌, List, [], ◌∷◌, ◌++◌, ℕ, ◌+◌, ◌<◌, length}
+use Rattle.std.specs.Prelude.{◌≡◌, refl, Bool, true, false, ◌||◌, List, [], ◌∷◌, ◌++◌, ℕ, ◌+◌, ◌<◌, length, Some, None}
 use Rattle.std.proofs.Math.Path.{sym, ap}
 use Rattle.std.proofs.Common.{ap₂, ◌∙◌, subst, arith, length-append, pow_pos, eqb-true, ne_eqb}
 use Rattle.std.proofs.lemmas.Bool.{false≢true}
@@ -42,7 +42,6 @@ use Rattle.step.specs.Change.{Change, applied}
 use Rattle.step.specs.Backward.{undone_at}
 use Rattle.step.proofs.Undone as Step
 use Rattle.step.specs.Way.{way_of, way_behind, clear_undoable}
-use Rattle.step.specs.declared.backward.Way.TheVariants as Way
 use Rattle.ranges.specs.Backward.{accepted_taken, undone_in_range, undone_shaped}
 use Rattle.rollback.specs.Rollback.{undone_all, rolled_back}
 use Rattle.rollback.specs.Turns.{touched_last}
@@ -111,7 +110,7 @@ module _ (s : Script) (w : ShapedScript s) (n : Images.Net) (good : Good s n) (e
             (dependents_iff key_count (depends (view s n)) (over (view s n) good.accepted) e.0 k.0).1
             (reach_fewer (undoes_older (rules_of s).keys U good.accepted g.steps) now)
 
-        module _ (f : Key) (behind : way_of s net k ≡ Way.Behind f) where
+        module _ (f : Key) (behind : way_of s net k ≡ Some f) where
           after : depends W k.0 f.0 ≡ true
           after = (way_behind s w net net_accepted k met_event f behind).1
 
@@ -139,7 +138,7 @@ module _ (s : Script) (w : ShapedScript s) (n : Images.Net) (good : Good s n) (e
               count_le key_count D,
             )
 
-        pub met_undoable : way_of s net k ≡ Way.Clear → Undoable W k.0
+        pub met_undoable : way_of s net k ≡ None → Undoable W k.0
         met_undoable = clear_undoable s w net net_accepted k met_event
 
         -- ---- one more is undone

@@ -12,6 +12,7 @@ use Rattle.laws.specs.Checks.{all, all_at}
 use Rattle.names.specs.Names.{node_count, none}
 use Rattle.images.specs.Script.{action0, field0, action_at, field_at, row_of, node_in_place, target_in_place, reference_in_place, field_in_range, count_in_place, field_in_place, fields_in_place, places_in_row, fields_in_row, action_in_range, script_in_range}
 use Rattle.images.specs.Shape.{ShapedScript}
+use Rattle.images.specs.declared.TargetUse.{TargetUse}
 use Rattle.images.specs.declared.Field.{Field}
 use Rattle.images.specs.declared.Action.{Action}
 use Rattle.images.specs.declared.Script.{Script}
@@ -58,14 +59,11 @@ node_cases s w r i =
 
 -- ---- small numbers
 
-small_target : (need : ℕ) (f : Field) → target_in_place need f ≡ true → f.number < 8
+small_target : (need : TargetUse) (f : Field) → target_in_place need f ≡ true → f.number < 8
 unfolding target_in_place
-small_target need f p =
-    cases (eqb need 0)
-    (λ e. omega (arith, eqb-true f.number 0 (and_right (eqb f.tag 0) _ (rw e at p))))
-    (λ n. cases (eqb need 1)
-    (λ e. ltb-true f.number 8 (and_right (leb f.tag 3) _ (and_right (leb 2 f.tag) _ (rw (n, e) at p))))
-    (λ m. ltb-true f.number 8 (and_right (eqb f.tag 3) _ (rw (n, m) at p))))
+small_target TargetUse.Unused f p = omega (arith, eqb-true f.number 0 (and_right (eqb f.tag 0) _ p))
+small_target TargetUse.Given f p = ltb-true f.number 8 (and_right (leb f.tag 3) _ (and_right (leb 2 f.tag) _ p))
+small_target TargetUse.Bound f p = ltb-true f.number 8 (and_right (eqb f.tag 3) _ p)
 
 pub target_small : (a : Action) → Ranged a → a.target.number < 8
 target_small a w = small_target (row_of a.kind).target a.target w.target

@@ -1,23 +1,20 @@
 -- The backward step on lent bytes: what its loops and returns look up, and what its writes leave.
--- In order: the loops over the keys (`at_key`; `Unused` and `Untaken`: at first, one more, found, at the end); tests on what was looked up (`kind_yes`, `kind_no`);
--- the localities of slots that become free (`freed_no_key`, `freed_no_place`, `freed_there`); the third slot (`back_none`, `back_second`, `back_tuple`), and a record
--- that keeps what it carries (`kept`); of an event that may be undone, the tuple that an in took is neither the event nor what it made (`used_not_event`,
--- `used_not_first`); undoing on lent bytes (`undo_sized`, `undo_below`, `undo_keeps`, `undo_touches`, `undo_writes`); the step, return by return (`refuses_process`,
--- `refuses_places`, `refuses_undoing`, `may_undo`, `undoing_served`).
+-- In order: what the searches over the keys ask (`at_key`, `used_asked`, `taken_asked`); a record that keeps what it carries (`kept`); of an event that may be undone,
+-- the tuple that an in took is neither the event nor what it made (`used_not_event`, `used_not_first`); undoing on lent bytes (`undo_sized`, `undo_below`, `undo_keeps`,
+-- `undo_touches`, `undo_writes`); the step, return by return (`refuses_process`, `refuses_places`, `refuses_undoing`, `may_undo`, `undoing_served`).
 -- Assumes nothing.
-use Rattle.std.specs.Prelude.{ℕ, ◌+◌, ◌<◌, ◌≤◌, ◌≡◌, Bool, false, List, ltb}
+use Rattle.std.specs.Prelude.{ℕ, ◌<◌, ◌≡◌, Bool, false, ◌&&◌, List, Option, Some, None}
 use Rattle.std.proofs.Math.Path.{refl, ap}
-use Rattle.std.proofs.Common.{sym, ◌∙◌, subst, true≢false, arith}
-use Rattle.std.proofs.Math.Bool.{true}
+use Rattle.std.proofs.Common.{sym, ◌∙◌, subst, true≢false}
+use Rattle.std.proofs.Math.Bool.{true, and_comm}
 use Rattle.std.proofs.Math.Dec.{eqb}
-use borrow.Author.Tests.{eq-eqb, ne_eqb, lt-ltb, ltb-true, ltb-false}
-use Rattle.laws.specs.Choice.{cases, fails}
+use borrow.Author.Tests.{eq-eqb, lt-ltb}
+use Rattle.laws.specs.Choice.{cases, fails, and_both}
 use Rattle.laws.specs.Words.{Bytes}
 use Rattle.order.specs.KeySets.{◌∈◌}
-use Rattle.names.specs.Names.{key_count, key, is_key, is_locality}
-use Rattle.names.specs.Localities.{localities, joined}
+use Rattle.names.specs.Names.{key_count, key}
+use Rattle.names.specs.Localities.{localities}
 use Rattle.names.specs.declared.Key.{Key}
-use Rattle.names.specs.declared.Locality.{Locality}
 use Rattle.names.specs.declared.Localities.{Localities}
 use Rattle.images.specs.Shape.{ShapedScript}
 use Rattle.images.specs.Net.{free_slot, slot_at, slot_with}
@@ -36,7 +33,7 @@ use Rattle.nets.specs.Undo.{Undoable}
 use Rattle.nets.specs.Accepted.{Accepted}
 use Rattle.nets.specs.Records.{made_first, live_not_consumed}
 use Rattle.nets.proofs.Events.{event_below, take_consumed}
-use Rattle.products.specs.Body.{body_of, fresh, live_tuple}
+use Rattle.products.specs.Body.{body_of, fresh}
 use Rattle.products.specs.Products.{is_in}
 use Rattle.rules.specs.Instance.{rules_of}
 use Rattle.rules.specs.Roots.{rolled_by}
@@ -54,132 +51,34 @@ use Rattle.step.specs.Backward.{back_put, present_before, freed_at, backward_don
 use Rattle.step.specs.InPlace.{put_bytes, change_bytes, slot_kept}
 use Rattle.step.specs.Stepped.{Serves}
 use Rattle.step.proofs.Stepped.{change_refused, change_written}
-use Rattle.step.specs.Way.{used_by, taken_by, user_of, taker_of, way_of, least_here, least_none, unused_event, unused_other, used_yes, untaken_event, untaken_other, untaken_node, taken_yes, taken_is, clear_undoable, behind_not}
-use Rattle.step.specs.declared.backward.Way.{Way}
+use Rattle.step.specs.Way.{uses_key, takes_key, took, used_by, taken_by, way_of, taken_is, clear_undoable, behind_not}
 
--- ---- loops over the keys
+-- ---- the search over the keys
 
 -- the slot with a key below the limit
 pub at_key : (n : Net) (f : ℕ) → f < key_count → slot_with n (key f) ≡ slot_at n f
 at_key n f l = rw (lt-ltb f key_count l)
 
--- a test that failed below a number, and at it
-below_more : (p : ℕ → Bool) (i : ℕ) → ((j : ℕ) → j < i → p j ≡ false) → p i ≡ false → (j : ℕ) → j < i + 1 → p j ≡ false
-below_more p i h e j l =
-    cases (ltb j i) (λ t. h j (ltb-true j i t))
-    (λ t. let same : i ≡ j = omega (arith, l, ltb-false j i t) in subst (λ (m : ℕ). p m ≡ false) same e)
+-- what the code asks of a key is what the search is for
+taken_first : (p q o : Bool) → (q && (p && o)) ≡ (p && (q && o))
+taken_first true q o = refl
+taken_first false true o = refl
+taken_first false false o = refl
 
--- no event below the number used the tuple; none took it
-abbrev pub Unused : Net → Key → ℕ → Type 0
-Unused n t i = (j : ℕ) → j < i → used_by n t j ≡ false
+module _ (n : Net) (t k : Key) (below : k.0 < key_count) where
+  pub used_asked : (eqb (slot_with n k).used.0 t.0 && eqb (slot_with n k).kind 2) ≡ used_by n t k.0
+  unfolding used_by uses_key
+  used_asked =
+      ap (λ (x : Slot). eqb x.used.0 t.0 && eqb x.kind 2) (at_key n k.0 below) ∙
+      and_comm (eqb (slot_at n k.0).used.0 t.0) (eqb (slot_at n k.0).kind 2)
 
-abbrev pub Untaken : Script → Net → Key → ℕ → Type 0
-Untaken s n t i = (j : ℕ) → j < i → taken_by s n t j ≡ false
+  pub taken_asked : (s : Script) → (eqb (slot_with n k).used.0 t.0 && took s (slot_with n k)) ≡ taken_by s n t k.0
+  unfolding taken_by takes_key
+  taken_asked s =
+      ap (λ (x : Slot). eqb x.used.0 t.0 && took s x) (at_key n k.0 below) ∙
+      taken_first (eqb (slot_at n k.0).kind 2) (eqb (slot_at n k.0).used.0 t.0) (eqb (node_with s (slot_at n k.0).node).kind 2)
 
-pub unused_first : (n : Net) (t : Key) → Unused n t 0
-unused_first n t j l = absurd (omega (arith, l))
-
-pub untaken_first : (s : Script) (n : Net) (t : Key) → Untaken s n t 0
-untaken_first s n t j l = absurd (omega (arith, l))
-
-pub unused_all : (n : Net) (t : Key) (i : ℕ) → key_count ≤ i → Unused n t i → Way.Clear ≡ user_of n t
-unfolding user_of
-unused_all n t i h all = least_none (used_by n t) (λ j l. all j (omega (arith, h, l)))
-
-pub untaken_all : (s : Script) (n : Net) (t : Key) (i : ℕ) → key_count ≤ i → Untaken s n t i → Way.Clear ≡ taker_of s n t
-unfolding taker_of
-untaken_all s n t i h all = least_none (taken_by s n t) (λ j l. all j (omega (arith, h, l)))
-
--- one more, by what the slot with that key is seen to have used
-module _ (n : Net) (t : Key) (i : ℕ) (l : i < key_count) (u : Key) (is-u : u ≡ (slot_with n (key i)).used) where
-  same_used : eqb u.0 t.0 ≡ eqb (slot_at n i).used.0 t.0
-  same_used = ap (λ (z : Key). eqb z.0 t.0) (is-u ∙ ap (λ (y : Slot). y.used) (at_key n i l))
-
-  used_not : (u.0 ≡ t.0 → ⊥) → eqb (slot_at n i).used.0 t.0 ≡ false
-  used_not d = sym same_used ∙ ne_eqb u.0 t.0 d
-
-  used_same : u.0 ≡ t.0 → eqb (slot_at n i).used.0 t.0 ≡ true
-  used_same e = sym same_used ∙ eq-eqb u.0 t.0 e
-
-  pub next_other : Unused n t i → (u.0 ≡ t.0 → ⊥) → Unused n t (i + 1)
-  next_other before d = below_more (used_by n t) i before (unused_other n t i (slot_at n i) refl (used_not d))
-
-  -- and by its kind
-  module _ (c : ℕ) (is_c : c ≡ (slot_with n (key i)).kind) where
-    same_kind : eqb c 2 ≡ eqb (slot_at n i).kind 2
-    same_kind = ap (λ (z : ℕ). eqb z 2) (is_c ∙ ap (λ (y : Slot). y.kind) (at_key n i l))
-
-    pub next_kind : Unused n t i → (c ≡ 2 → ⊥) → Unused n t (i + 1)
-    next_kind before d = below_more (used_by n t) i before (unused_event n t i (slot_at n i) refl (sym same_kind ∙ ne_eqb c 2 d))
-
-    pub user_here : Unused n t i → u.0 ≡ t.0 → c ≡ 2 → Way.Behind (key i) ≡ user_of n t
-    unfolding user_of
-    user_here before e d =
-        least_here (used_by n t) i l before (used_yes n t i (slot_at n i) refl (sym same_kind ∙ eq-eqb c 2 d) (used_same e))
-
-  module _ (s : Script) where
-    pub next_untaken_other : Untaken s n t i → (u.0 ≡ t.0 → ⊥) → Untaken s n t (i + 1)
-    next_untaken_other before d = below_more (taken_by s n t) i before (untaken_other n t i (slot_at n i) refl s (used_not d))
-
-    -- and by the slot, and its node
-    module _ (x : Slot) (is_x : x ≡ slot_with n (key i)) where
-      is_slot : x ≡ slot_at n i
-      is_slot = is_x ∙ at_key n i l
-
-      pub next_untaken_kind : Untaken s n t i → (x.kind ≡ 2 → ⊥) → Untaken s n t (i + 1)
-      next_untaken_kind before d = below_more (taken_by s n t) i before (untaken_event n t i x is_slot s (ne_eqb x.kind 2 d))
-
-      module _ (a : Action) (is-a : a ≡ node_with s x.node) where
-        pub next_untaken_node : Untaken s n t i → (a.kind ≡ 2 → ⊥) → Untaken s n t (i + 1)
-        next_untaken_node before d = below_more (taken_by s n t) i before (untaken_node n t i x is_slot s a is-a (ne_eqb a.kind 2 d))
-
-        pub taker_here : Untaken s n t i → u.0 ≡ t.0 → x.kind ≡ 2 → a.kind ≡ 2 → Way.Behind (key i) ≡ taker_of s n t
-        unfolding taker_of
-        taker_here before e p q =
-            let used : eqb x.used.0 t.0 ≡ true = ap (λ (y : Slot). eqb y.used.0 t.0) is_slot ∙ used_same e in
-            least_here (taken_by s n t) i l before (taken_yes n t i x is_slot s a is-a (eq-eqb x.kind 2 p) used (eq-eqb a.kind 2 q))
-
--- ---- tests on what was looked up
-
-pub kind_yes : (c d m : ℕ) → c ≡ d → c ≡ m → eqb d m ≡ true
-kind_yes c d m e h = eq-eqb d m (sym e ∙ h)
-
-pub kind_no : (c d m : ℕ) → c ≡ d → (c ≡ m → ⊥) → eqb d m ≡ false
-kind_no c d m e h = ne_eqb d m (λ z. h (e ∙ z))
-
--- ---- the localities of slots that become free
-
-module _ (set : Localities) (k : Key) (y : Slot) where
-  pub freed_no_key : is_key k ≡ false → set ≡ freed_at set k y
-  unfolding freed_at
-  freed_no_key h = rw h
-
-  module _ (l : Locality) (is_l : l ≡ y.locality) where
-    pub freed_no_place : is_key k ≡ true → is_locality l ≡ false → set ≡ freed_at set k y
-    unfolding freed_at
-    freed_no_place h p = rw (h, ap is_locality (sym is_l) ∙ p)
-
-    pub freed_there : is_key k ≡ true → is_locality l ≡ true → (r : Localities) → r ≡ joined set l → r ≡ freed_at set k y
-    unfolding freed_at
-    freed_there h p r e = rw (h, ap is_locality (sym is_l) ∙ p) (e ∙ ap (joined set) is_l)
-
--- ---- the third slot
-
-module _ (kind : ℕ) (second used : Key) (t : Slot) where
-  pub back_none : (b : List ℕ) → is_key second ≡ false → is_in kind ≡ false → b ≡ put_bytes (back_put kind second used t) b
-  unfolding back_put slot_put
-  back_none b h i = rw (h, i) refl
-
-  module _ (z : Slot) (b c : List ℕ) where
-    pub back_second : is_key second ≡ true → z ≡ free_slot → c ≡ slot_put second z b → c ≡ put_bytes (back_put kind second used t) b
-    unfolding back_put
-    back_second h is-z is_c = rw h (is_c ∙ ap (λ (y : Slot). slot_put second y b) is-z)
-
-    pub back_tuple : is_key second ≡ false → is_in kind ≡ true → (y : Slot) → y ≡ t → z ≡ live_tuple (body_of y) → c ≡ slot_put used z b
-        → c ≡ put_bytes (back_put kind second used t) b
-    unfolding back_put
-    back_tuple h i y is_y is-z is_c =
-        rw (h, i) (is_c ∙ ap (λ (v : Slot). slot_put used v b) (is-z ∙ ap (λ (v : Slot). live_tuple (body_of v)) is_y))
+-- ---- a record that is put back
 
 -- the record as it would be made keeps what the one that stands there carries
 pub kept : (kind : ℕ) (y z old : Slot) → y ≡ old → z ≡ fresh kind (body_of y) → (z.contents ≡ old.contents) × (z.refs ≡ old.refs)
@@ -201,17 +100,14 @@ module _ (s : Script) (w : ShapedScript s) (n : Net) (ok : Accepted (view s n)) 
   pub event_at_key : k.0 < key_count
   event_at_key = event_below W ok k.0 u.is_past_lem
 
-  slot_here : slot_with n k ≡ slot_at n k.0
-  slot_here = at_key n k.0 event_at_key
-
   event_past : eqb (slot_with n k).kind 2 ≡ true
   event_past = sym (ap (λ (z : Nets.Slot (rules_of s)). is_past z.kind) (view_with s n k) ∙ past_is (slot_with n k).kind) ∙ u.is_past_lem
 
   -- an in took what it used, which is consumed
   used_taken : is_in (node_with s (slot_with n k).node).kind ≡ true → takes W k.0 (slot_with n k).used.0 ≡ true
   used_taken i =
-      sym (taken_is s w n x₀.used k.0 event_at_key) ∙
-      taken_yes n x₀.used k.0 x₀ slot_here s (node_with s x₀.node) refl event_past (eq-eqb x₀.used.0 x₀.used.0 refl) i
+      sym (taken_is s w n x₀.used k.0 event_at_key) ∙ sym (taken_asked n x₀.used k event_at_key s) ∙
+      and_both (eqb x₀.used.0 x₀.used.0) _ (eq-eqb x₀.used.0 x₀.used.0 refl) (and_both (eqb x₀.kind 2) _ event_past i)
 
   used_consumed : is_in (node_with s (slot_with n k).node).kind ≡ true → (W.slot (slot_with n k).used.0).kind ≡ consumed
   used_consumed i = take_consumed W ok k.0 x₀.used.0 (used_taken i)
@@ -260,8 +156,8 @@ module _ (S N : List ℕ) (lent : Lent S N) (k : Key) (u : Undoable (view (scrip
     looked_up : x ≡ slot_with (net_of N) k
     looked_up = is_x ∙ sym (at_key n₀ k.0 undo_below)
 
-    pub undo_keeps : (z : Slot) → z ≡ fresh 1 (body_of x) → (Sized N) × ((z.contents ≡ (slot_with (net_of N) k).contents) × (z.refs ≡ (slot_with (net_of N) k).refs))
-    undo_keeps z is-z = (undo_sized, kept 1 x z (slot_with n₀ k) looked_up is-z)
+    pub undo_keeps : (z : Slot) → z ≡ fresh 1 (body_of x) → (z.contents ≡ (slot_with (net_of N) k).contents) × (z.refs ≡ (slot_with (net_of N) k).refs)
+    undo_keeps z is-z = kept 1 x z (slot_with n₀ k) looked_up is-z
 
     pub undo_touches : (one both : Localities) → one ≡ freed_at (localities 0) x.first (slot_with (net_of N) x.first)
         → both ≡ freed_at one x.second (slot_with (net_of N) x.second) → both ≡ (undone_at (script_of S) (net_of N) k).touched
@@ -370,10 +266,10 @@ module _ (S N : List ℕ) (lent : Lent S N) (script : Bytes S) (net : Bytes N) (
       pub refuses_places : no_places (asked r) ≡ false → (z : Told) → z ≡ refusal Answer.WrongPlaces → Serves z N (backward_outcome (script_of S) (net_of N) r) N
       refuses_places h = refuses Answer.WrongPlaces refl (answers_places h)
 
-      pub may_undo : (o : Way) → o ≡ way_of (script_of S) (net_of N) r.key → o ≡ Way.Clear → Undoable (view (script_of S) (net_of N)) r.key.0
+      pub may_undo : (o : Option Key) → o ≡ way_of (script_of S) (net_of N) r.key → o ≡ None → Undoable (view (script_of S) (net_of N)) r.key.0
       may_undo o is-o e = clear_undoable s₁ shaped n₁ accepted r.key past (sym is-o ∙ e)
 
-      module _ (q : no_places (asked r) ≡ true) (o : Way) (is-o : o ≡ way_of (script_of S) (net_of N) r.key) where
+      module _ (q : no_places (asked r) ≡ true) (o : Option Key) (is-o : o ≡ way_of (script_of S) (net_of N) r.key) where
         answers_undoing : can_undo (rolled_by (script_of S)) (view (script_of S) (net_of N)) (asked r) ≡ false → Answer.NotUndoable ≡ backward_answer (script_of S) (net_of N) r
         unfolding backward_answer backward_checks Checks.refusal
         answers_undoing h = rw (past, q, h)
@@ -382,14 +278,14 @@ module _ (S N : List ℕ) (lent : Lent S N) (script : Bytes S) (net : Bytes N) (
         unfolding backward_answer backward_checks Checks.refusal
         answers_done h = rw (past, q, h)
 
-        pub refuses_undoing : (f : Key) → o ≡ Way.Behind f → (z : Told) → z ≡ refusal Answer.NotUndoable → Serves z N (backward_outcome (script_of S) (net_of N) r) N
+        pub refuses_undoing : (f : Key) → o ≡ Some f → (z : Told) → z ≡ refusal Answer.NotUndoable → Serves z N (backward_outcome (script_of S) (net_of N) r) N
         refuses_undoing f e =
             refuses Answer.NotUndoable refl
             (answers_undoing
             (fails (can_undo (rolled_by s₁) (view s₁ n₁) (asked r))
             (λ h. behind_not s₁ shaped n₁ accepted r.key past f (sym is-o ∙ e) (undo_can (rolled_by s₁) refl (view s₁ n₁) accepted (asked r) past h))))
 
-        pub undoing_served : o ≡ Way.Clear → (touched : Localities) → touched ≡ (undone_at (script_of S) (net_of N) r.key).touched → (last : List ℕ)
+        pub undoing_served : o ≡ None → (touched : Localities) → touched ≡ (undone_at (script_of S) (net_of N) r.key).touched → (last : List ℕ)
             → last ≡ change_bytes (undone_at (script_of S) (net_of N) r.key) N → Serves (record { answer = Answer.Done; undone = 1; touched = touched }) last (backward_outcome (script_of S) (net_of N) r) N
         unfolding backward_outcome backward_change backward_done
         undoing_served e touched is-touched last is_last =

@@ -1,22 +1,21 @@
 -- A forward step on the lent bytes of good images.
--- In order: the node at which the process of a request is and its bytes in the lent script (`start_of`, `node_from`, `node_ends`, `node_here`); what a call gives where a check
--- refuses it (`forward_refused`), and where it is written (`forward_done_lem`).
+-- In order: the process of a request is at a node of the lent script (`has_node`, `node_here`); what a call gives where a check refuses it (`forward_refused`),
+-- and where it is written (`forward_done_lem`).
 -- Assumes nothing.
-use Rattle.std.specs.Prelude.{ℕ, ◌<◌, ◌≤◌, ◌+◌, ◌*◌, ◌-◌, ◌≡◌, true, List, eqb, leb, length, take, drop}
-use Rattle.std.proofs.Math.Path.{refl, ap}
+use Rattle.std.specs.Prelude.{ℕ, ◌<◌, ◌≡◌, true, List, eqb, leb, Ok, Err}
+use Rattle.std.proofs.Math.Path.{refl, ap, subst}
 use Rattle.std.proofs.Common.{sym, ◌∙◌, arith, eqb-true, ltb-true, lt-ltb}
 use Rattle.laws.specs.Checks.{all_at}
 use Rattle.laws.specs.Choice.{cases, and_left, and_right}
-use Rattle.laws.specs.Parts.{part_size}
 use Rattle.laws.specs.Words.{Bytes}
 use Rattle.names.specs.Names.{key_count, node_count, is_node, is_locality}
 use Rattle.names.specs.Localities.{localities}
-use Rattle.names.specs.declared.Node.{Node}
+use Rattle.images.specs.Head.{part_at}
 use Rattle.images.specs.Net.{slot_at, slot_with, slot_in_range, net_in_range, free_in_range, process_in_range, tuple_in_range, made_are, made_in_range}
 use Rattle.images.specs.InPlace.{node_part}
 use Rattle.images.specs.Read.{action_of, script_of, net_of, node_with}
 use Rattle.images.specs.Round.{shaped_script}
-use Rattle.images.specs.Sizes.{head_size, node_size}
+use Rattle.images.specs.Sizes.{node_size}
 use Rattle.images.specs.declared.Action.{Action}
 use Rattle.images.specs.declared.Script.{Script}
 use Rattle.images.specs.declared.Slot.{Slot}
@@ -35,7 +34,6 @@ use Rattle.step.specs.Allowed.{allowed_by, forward_found, refused_found, at_foun
 use Rattle.step.specs.Stepped.{Serves}
 use Rattle.step.proofs.Stepped.{change_refused, change_written}
 use Rattle.step.specs.InPlace.{change_bytes}
-use Rattle.step.specs.declared.forward.Allowed.{Allowed}
 
 -- ---- the node
 
@@ -53,14 +51,6 @@ slot_node x h =
     cases (eqb x.kind 2)
     (λ p. and_left _ _ (and_right (is_locality x.locality) _ (and_right (made_in_range x) _ (rw (k, l, p) at h))))
     (λ p. zero (and_left _ _ (and_right (is_locality x.locality) _ (and_right (leb x.kind 4) _ (rw (k, l, p) at h)))))))
-
--- where the bytes of a node begin
-abbrev pub start_of : Node → ℕ
-start_of k = head_size + node_size * k.0
-
--- the bytes of a node that begin here, of a lent script
-abbrev pub node_from : List ℕ → ℕ → List ℕ
-node_from S i = take (i + node_size - i) (drop i S)
 
 module _ (S N : List ℕ) (lent : Lent S N) (r : Request) (range : in_range (asked r) ≡ true) where
   abbrev s : Script
@@ -82,17 +72,12 @@ module _ (S N : List ℕ) (lent : Lent S N) (r : Request) (range : in_range (ask
       ap (λ (z : Slot). is_node z.node) (sym (slot_with_lem n r.key l)) ∙
       slot_node (slot_at n r.key.0) (all_at key_count (λ i. slot_in_range (slot_at n i)) lent.good.net r.key.0 l)
 
-  has_node : x.node.0 < node_count
-  has_node = ltb-true x.node.0 node_count is_node_lem
+  pub has_node : (y : Slot) → y ≡ x → y.node.0 < node_count
+  has_node y is = subst (λ (z : Slot). z.node.0 < node_count) (sym is) (ltb-true x.node.0 node_count is_node_lem)
 
-  module _ (i : ℕ) (at : i ≡ start_of x.node) where
-    pub node_ends : i + node_size ≤ length S
-    node_ends = omega (arith, at, has_node, lent.size)
-
-    pub node_here : action_of (node_from S i) ≡ a
-    node_here =
-        ap (λ (k : ℕ). action_of (take k (drop i S))) (part_size i node_size) ∙ ap (λ (k : ℕ). action_of (take node_size (drop k S))) at ∙
-        node_part S x.node.0 has_node ∙ rw is_node_lem refl
+  pub node_here : (y : Slot) → y ≡ x → (p : List ℕ) → p ≡ part_at node_size S y.node.0 → action_of p ≡ a
+  node_here y is p at =
+      ap action_of at ∙ ap (λ (z : Slot). action_of (part_at node_size S z.node.0)) is ∙ node_part S x.node.0 (has_node x refl) ∙ rw is_node_lem refl
 
   -- ---- what a call gives
 
@@ -101,14 +86,14 @@ module _ (S N : List ℕ) (lent : Lent S N) (r : Request) (range : in_range (ask
     unfolding forward_found
     answer_is = forward_answered s (shaped_script S bytesS).nodes n r
 
-    pub forward_refused : (q : Answer) → allowed_by a n r ≡ Allowed.Refused q → (z : Told) → z ≡ refusal q → Serves z N (forward_outcome s n r) N
+    pub forward_refused : (q : Answer) → allowed_by a n r ≡ Err q → (z : Told) → z ≡ refusal q → Serves z N (forward_outcome s n r) N
     unfolding forward_outcome forward_change
     forward_refused q e z is-z =
         let (is, h) = refused_found a n r q e in
         change_refused S N lent bytes (forward_change s n r) n.present q (ap is_done is ∙ h)
         (stepped_no n.present (forward_answer s n r) q (is ∙ answer_is) _ _ (ap is_done is ∙ h) refl) z is-z
 
-    pub forward_done_lem : {l : _} → allowed_by a n r ≡ Allowed.At l → (z : Told) → z ≡ told_done 0 (localities 0) → (last : List ℕ)
+    pub forward_done_lem : {l : _} → allowed_by a n r ≡ Ok l → (z : Told) → z ≡ told_done 0 (localities 0) → (last : List ℕ)
         → last ≡ change_bytes (forward_in a n r) N → Serves z last (forward_outcome s n r) N
     unfolding forward_outcome forward_change forward_in forward_done
     forward_done_lem {l} e z is-z last is_last =

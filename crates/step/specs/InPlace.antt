@@ -1,15 +1,13 @@
 -- A change written in place, put after put into the bytes of a net: what it leaves are the bytes of the net once the change is written.
--- In order: the bytes after a change (`change_bytes`); of a net's bytes (`put_bytes_lem`, `change_bytes_lem`); they stay as many (`slot_kept`,
--- `present_kept`).
+-- In order: the bytes after a change (`change_bytes`); of a net's bytes (`put_bytes_lem`, `change_bytes_lem`); they stay as many (`slot_kept`).
 -- Assumes nothing.
 use Rattle.std.specs.Prelude.{ℕ, ◌≡◌, refl, List, length}
 use Rattle.std.proofs.Common.{ap, ◌∙◌}
 use Rattle.laws.specs.Choice.{cases}
 use Rattle.names.specs.Names.{key_count, is_key}
 use Rattle.names.specs.declared.Key.{Key}
-use Rattle.names.specs.declared.Localities.{Localities}
 use Rattle.images.specs.Net.{net_bytes}
-use Rattle.images.specs.InPlace.{slot_put, present_put, length_slot_put, length_present_put, slot_put_net, present_put_net}
+use Rattle.images.specs.InPlace.{slot_put, present_put, length_slot_put, slot_put_net, present_put_net}
 use Rattle.images.specs.declared.Slot.{Slot}
 use Rattle.images.specs.declared.Net.{Net}
 use Rattle.step.specs.Change.{Put, Change, put_in, applied}
@@ -41,10 +39,7 @@ change_bytes_lem n whole c =
     ap (λ (b : List ℕ). present_put c.present (put_bytes c.other b)) (put_bytes_lem one whole₁ c.first) ∙
     ap (present_put c.present) (put_bytes_lem two whole₂ c.other) ∙ present_put_net (put_in two c.other) c.present
 
--- ---- what a step writes, one after the other
+-- ---- a slot written keeps the length
 
 pub slot_kept : (k : Key) (x : Slot) (b c : List ℕ) → c ≡ slot_put k x b → length b ≡ 3600 → length c ≡ 3600
 slot_kept k x b c e h = ap length e ∙ length_slot_put k x b h
-
-pub present_kept : (p : Localities) (b c : List ℕ) → c ≡ present_put p b → length b ≡ 3600 → length c ≡ 3600
-present_kept p b c e h = ap length e ∙ length_present_put p b h

@@ -1,20 +1,18 @@
 -- What a forward step writes, one after the other, each from what stands in the bytes at its turn: together they are its change.
 -- In order: the reference (`refer_put`), the continuation before anything is bound (`next_slot`, `next_put`), newloc's variable (`bound_place`), what is bound (`bound_next`),
--- the second thing made (`tuple_of`, `second_put`), the tuple that is taken (`taken_put`); the continuation is the rule's (`next_is`); the third slot is the change's (`other_is`); all
--- of it (`forward_written`).
+-- the second thing made (`second_put`), the tuple that is taken (`taken_put`); the continuation is the rule's (`next_is`); the third slot is the change's (`other_is`), and by
+-- whether there is one (`seconds`); all of it (`forward_written`).
 -- Assumes nothing.
-use Rattle.std.specs.Prelude.{ℕ, ◌≡◌, Bool, true, ltb, length, replicate, set}
+use Rattle.std.specs.Prelude.{ℕ, ◌≡◌, Bool, true, ltb, length, set}
 use Rattle.std.proofs.Math.Path.{refl, ap}
 use Rattle.std.proofs.Common.{sym, ◌∙◌, subst, eqb-true, lt-ltb, ltb-true}
 use Rattle.std.proofs.Math.Bool.{false}
 use mathlib.Core.List.{List}
 use Rattle.laws.specs.Choice.{pick, cases, clash, fails, or_left}
-use Rattle.laws.specs.Lists.{tab}
 use Rattle.laws.specs.Words.{Bytes}
-use Rattle.names.specs.Names.{key_count, reference_count, variable_count, none, key, node, variable}
+use Rattle.names.specs.Names.{key_count, reference_count, variable_count, variable}
 use Rattle.names.specs.declared.Locality.{Locality}
 use Rattle.names.specs.declared.Localities.{Localities}
-use Rattle.images.specs.Script.{field_at}
 use Rattle.images.specs.Net.{slot_with, slot_bytes}
 use Rattle.images.specs.Read.{slot_of, net_of}
 use Rattle.images.specs.Shape.{ShapedSlot}
@@ -27,9 +25,9 @@ use Rattle.images.specs.declared.Action.{Action}
 use Rattle.images.specs.declared.Datum.{Datum}
 use Rattle.images.specs.declared.Slot.{Slot}
 use Rattle.matching.specs.Bound.{bound_put, bound_put_lem}
-use Rattle.products.specs.Body.{body_of, fresh, live_process, live_tuple}
-use Rattle.products.specs.Products.{is_out, is_in, is_newloc, meets_tuple, makes_second, made_datum, field_made, variables_after, references_after, continued_by}
-use Rattle.products.specs.Acting.{acts_at, tuple_at, process_at, second_at, second_acts}
+use Rattle.products.specs.Body.{body_of, fresh, live_process}
+use Rattle.products.specs.Products.{is_out, is_in, is_newloc, meets_tuple, makes_second, made_datum, variables_after, references_after, continued_by}
+use Rattle.products.specs.Acting.{acts_at, tuple_of, tuple_at, process_at, second_at, second_acts}
 use Rattle.requests.specs.Answers.{in_range}
 use Rattle.requests.specs.Requests.{asked}
 use Rattle.requests.specs.declared.Request.{Request}
@@ -59,12 +57,6 @@ bound_place a r b =
 unfoldable pub bound_next : Action → Request → List ℕ → List ℕ
 bound_next a r b =
     pick (meets_tuple a.kind) (bound_put a (slot_with (net_of b) r.used).contents r.first b) (pick (is_newloc a.kind) (bound_place a r b) b)
-
--- the tuple that an out makes
-unfoldable pub tuple_of : Action → List Datum → Locality → Slot
-tuple_of a vars l =
-    live_tuple
-    (record { locality = l; node = node 0; count = a.count; contents = tab 8 (λ j. field_made vars a.count j (field_at a j)); refs = replicate reference_count (key none) })
 
 unfoldable pub second_put : Action → Slot → Locality → Request → Put
 second_put a x l r = pick (makes_second a.kind) (put r.second (second_at a (body_of x) l)) nowhere
@@ -137,6 +129,9 @@ module _ (a : Action) (x : Slot) (l : Locality) where
   unfolding second_at
   process_second h = rw h refl
 
+-- what is written where there is no second thing, and what it is where there is one
+pub ruleset seconds = (puts_nothing, tuple_second, process_second)
+
 -- ---- all of it
 
 -- the second thing carries the variables and references of the process, and no more of it
@@ -145,7 +140,7 @@ unfolding second_at tuple_at process_at
 second_same a l x z c q =
     λ i.
     pick (is_out a.kind)
-    (live_tuple (record { locality = l; node = node 0; count = a.count; contents = tab 8 (λ j. field_made (c i) a.count j (field_at a j)); refs = replicate reference_count (key none) }))
+    (tuple_of a (c i) l)
     (live_process (record { locality = l; node = a.other; count = 0; contents = c i; refs = q i }))
 
 module _ (a : Action) (b : List ℕ) (sized : Sized b) (bytes : Bytes b) (r : Request) (range : in_range (asked r) ≡ true) (g : Found a (net_of b) r) (l : Locality)

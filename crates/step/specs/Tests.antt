@@ -1,23 +1,19 @@
 -- The checks as the code makes them, on the slots that a request names. Nothing here must be believed: `Tested` proves them to be the checks
 -- of `requests`, of the net that the slots are from.
--- In order: `checked`; each test of a forward step, and these in their order (`forward_tests`); what an answer of a check says (`holds_true`,
--- `fails_false`); the part that is lent for a tuple (`slot_match`).
+-- In order: each test of a forward step, and these in their order (`forward_tests`); the match as the code answers it (`template_answer`), and what that
+-- answer says (`answer_met`, `answer_not_met`).
 -- Assumes nothing.
-use Rattle.std.specs.Prelude.{ℕ, ◌+◌, ◌-◌, ◌*◌, Bool, true, false, ◌&&◌, not, ◌≡◌, refl, List, [], ◌∷◌, eqb, take, drop}
-use Rattle.std.proofs.Common.{ap, sym, ◌∙◌, arith}
-use Rattle.laws.specs.Choice.{pick, ◌⇒◌}
+use Rattle.std.specs.Prelude.{ℕ, Bool, true, false, ◌&&◌, not, ◌≡◌, List, [], ◌∷◌, eqb, Result, Ok, Err}
+use Rattle.laws.specs.Choice.{pick, cases, ◌⇒◌}
 use Rattle.names.specs.Localities.{holds}
 use Rattle.names.specs.declared.Locality.{Locality}
 use Rattle.names.specs.declared.Localities.{Localities}
-use Rattle.names.specs.Names.{is_key}
-use Rattle.names.specs.declared.Key.{Key}
-use Rattle.images.specs.Net.{is_free, slot_with}
-use Rattle.images.specs.Read.{slot_of, net_of}
-use Rattle.images.specs.InPlace.{slot_lent}
+use Rattle.images.specs.Net.{is_free}
 use Rattle.images.specs.declared.Action.{Action}
 use Rattle.images.specs.declared.Datum.{Datum}
 use Rattle.images.specs.declared.Slot.{Slot}
-use Rattle.matching.specs.Match.{meets, match_of}
+use Rattle.matching.specs.Match.{meets, match_of, matches_meets, differs_not}
+use Rattle.matching.specs.declared.Mismatch.{Mismatch}
 use Rattle.products.specs.Products.{is_step, is_newloc, meets_tuple, makes_second, target_there, ready_by}
 use Rattle.products.specs.Acting.{acts_at}
 use Rattle.rules.specs.Instance.{makeable}
@@ -25,10 +21,6 @@ use Rattle.requests.specs.Checks as C
 use Rattle.requests.specs.Checks.{check}
 use Rattle.requests.specs.Answers.{as_needed}
 use Rattle.requests.specs.declared.Request.{Request}
-use Rattle.step.specs.declared.Check.{Check}
-
-unfoldable pub checked : Bool → Check
-checked b = pick b Check.Holds Check.Fails
 
 -- 6: "an unneeded place not 255, or a needed one 255"
 unfoldable pub places_by : ℕ → Request → Bool
@@ -62,31 +54,16 @@ forward_tests a x t first second present r =
     check 9 (tuple_there a.kind t (acts_at a x.locality x.contents)) ∷ check 10 (template_met a x.contents t) ∷
     check 11 (names_fresh a.kind (is_free first) (is_free second) present r) ∷ []
 
--- ---- what an answer of a check says
+-- ---- the match, as an answer
 
-abbrev holds_number : Check → ℕ
-holds_number Check.Holds = 1
-holds_number Check.Fails = 0
+unfoldable pub template_answer : Action → List Datum → Slot → Result Unit Mismatch
+template_answer a vars t = pick (meets_tuple a.kind) (match_of vars a t) (Ok tt)
 
-pub holds_true : (b : Bool) → checked b ≡ Check.Holds → b ≡ true
-unfolding checked
-holds_true true e = refl
-holds_true false e = absurd (apart (ap (λ (k : Check). holds_number k) e))
-  where
-    apart : ◌≡◌ {A = ℕ} 0 1 → ⊥
-    apart z = omega arith
+module _ (a : Action) (vars : List Datum) (t : Slot) where
+  pub answer_met : template_answer a vars t ≡ Ok tt → template_met a vars t ≡ true
+  unfolding template_answer template_met
+  answer_met e = cases (meets_tuple a.kind) (λ m. rw m (matches_meets vars a t (rw m at e))) (λ m. rw m)
 
-pub fails_false : (b : Bool) → checked b ≡ Check.Fails → b ≡ false
-unfolding checked
-fails_false false e = refl
-fails_false true e = absurd (apart (ap (λ (k : Check). holds_number k) e))
-  where
-    apart : ◌≡◌ {A = ℕ} 1 0 → ⊥
-    apart z = omega arith
-
--- ---- the tuple's part is its slot
-
-pub slot_match : (vars : List Datum) (a : Action) (b : List ℕ) (k : Key) → is_key k ≡ true → (at : ℕ) → at ≡ 16 + 56 * k.0
-    → match_of vars a (slot_of (take (at + 56 - at) (drop at b))) ≡ match_of vars a (slot_with (net_of b) k)
-slot_match vars a b k h at is =
-    ap (match_of vars a) (ap (λ (i : ℕ). slot_of (take (i + 56 - i) (drop i b))) is ∙ sym (slot_lent b k h))
+  pub answer_not_met : {d : Mismatch} → template_answer a vars t ≡ Err d → template_met a vars t ≡ false
+  unfolding template_answer template_met
+  answer_not_met e = cases (meets_tuple a.kind) (λ m. rw m (differs_not vars a t (rw m at e))) (λ m. (cc (rw m at e)))

@@ -1,12 +1,11 @@
 -- What is in the way of undoing an event: an event that depends on it directly, found by looking at what it made and used.
--- In order: who used a tuple and who took it (`uses_key`, `takes_key`; `used_by`, `taken_by`), and the least of them (`least_of`, `user_of`, `taker_of`); `way_of`, in
--- the code's order; the least, from a loop (`least_here`, `least_none`), and what it says (`least_found`, `least_missing`); what a loop sees at a slot
--- (`unused_event`, `used_yes`, `untaken_event`, `taken_yes` and their kin); each return of the code (`returns_first` and its kin); each way out of `way_of` (`Out`,
--- `ways`); what an event used of what another made (`used_made`, `used_second`); what is in the way depends on the event (`way_behind`), and where
+-- In order: who used a tuple and who took it (`uses_key`, `takes_key`, `took`; `used_by`, `taken_by`), and the least of them (`least_of`, `Least`, `user_of`,
+-- `taker_of`); `way_of`, in the code's order; the least, from a search (`least_here`, `least_none`), and what it says (`least_found`, `least_missing`); each way out of
+-- `way_of` (`Out`, `ways`); what an event used of what another made (`used_made`, `used_second`); what is in the way depends on the event (`way_behind`), and where
 -- nothing is, nothing does (`way_clear`); so nothing is in the way exactly of an event that may be undone (`clear_undoable`, `behind_not`,
 -- `undoable_clear`).
 -- Assumes nothing.
-use Rattle.std.specs.Prelude.{ℕ, zero, suc, ◌<◌, ◌≡◌, refl, ◌⊎◌, Bool, true, false, ◌&&◌, not, ltb, length}
+use Rattle.std.specs.Prelude.{ℕ, zero, suc, ◌<◌, ◌≡◌, refl, ◌⊎◌, Bool, true, false, ◌&&◌, not, ltb, length, Option, Some, None}
 use Rattle.std.proofs.Math.Path.{ap, sym, subst}
 use Rattle.std.proofs.Common.{◌∙◌, inl, inr, ⊎_elim, true≢false, arith, eqb-true, eq-eqb, ne_eqb, ltb-true, ltb-false, lt-ltb, le-ltb}
 use Rattle.std.proofs.Math.Dec.{eqb}
@@ -38,7 +37,6 @@ use Rattle.nets.proofs.Events.{cause_depends, depends_cause, event_below, take_c
 use Rattle.rules.specs.Instance.{rules_of}
 use Rattle.rules.specs.Acts as Acts
 use Rattle.rules.specs.View.{view, slot_view, view_slot, view_with, live_is, past_is, consumed_is}
-use Rattle.step.specs.declared.backward.Way.{Way}
 
 -- ---- what the code looks for
 
@@ -48,6 +46,10 @@ uses_key x t = eqb x.kind 2 && eqb x.used.0 t.0
 
 unfoldable pub takes_key : Script → Slot → Key → Bool
 takes_key s x t = eqb x.kind 2 && (eqb x.used.0 t.0 && eqb (node_with s x.node).kind 2)
+
+-- the slot holds an event at an in
+abbrev pub took : Script → Slot → Bool
+took s x = eqb x.kind 2 && eqb (node_with s x.node).kind 2
 
 unfoldable pub used_by : Net → Key → ℕ → Bool
 used_by n t f = uses_key (slot_at n f) t
@@ -59,39 +61,43 @@ abbrev first_of : (ℕ → Bool) → ℕ
 first_of p = first_not key_count (λ f. not (p f))
 
 -- the least key for which the test holds
-unfoldable pub least_of : (ℕ → Bool) → Way
+unfoldable pub least_of : (ℕ → Bool) → Option Key
 least_of p =
-    pick (ltb (first_not key_count (λ f. not (p f))) key_count) (Way.Behind (key (first_not key_count (λ f. not (p f))))) Way.Clear
+    pick (ltb (first_not key_count (λ f. not (p f))) key_count) (Some (key (first_not key_count (λ f. not (p f))))) None
 
-unfoldable pub user_of : Net → Key → Way
+-- the least key at which a test answers yes, by what the test may answer at a key
+abbrev pub Least : (Key → Bool → Type 0) → Option Key → Type 0
+Least post o = (p : ℕ → Bool) → ((k : Key) (b : Bool) → k.0 < key_count → post k b → b ≡ p k.0) → o ≡ least_of p
+
+unfoldable pub user_of : Net → Key → Option Key
 user_of n t = least_of (used_by n t)
 
-unfoldable pub taker_of : Script → Net → Key → Way
+unfoldable pub taker_of : Script → Net → Key → Option Key
 taker_of s n t = least_of (taken_by s n t)
 
-unfoldable pub way_of : Script → Net → Key → Way
+unfoldable pub way_of : Script → Net → Key → Option Key
 way_of s n k =
-    pick (eqb (slot_with n (slot_with n k).first).kind 2) (Way.Behind (slot_with n k).first)
+    pick (eqb (slot_with n (slot_with n k).first).kind 2) (Some (slot_with n k).first)
     (pick (is_key (slot_with n k).second)
-    (pick (eqb (slot_with n (slot_with n k).second).kind 1) Way.Clear
-    (pick (eqb (slot_with n (slot_with n k).second).kind 2) (Way.Behind (slot_with n k).second) (user_of n (slot_with n k).second)))
+    (pick (eqb (slot_with n (slot_with n k).second).kind 1) None
+    (pick (eqb (slot_with n (slot_with n k).second).kind 2) (Some (slot_with n k).second) (user_of n (slot_with n k).second)))
     (pick (eqb (node_with s (slot_with n k).node).kind 3)
-    (pick (eqb (slot_with n (slot_with n k).used).kind 4) (taker_of s n (slot_with n k).used) Way.Clear) Way.Clear))
+    (pick (eqb (slot_with n (slot_with n k).used).kind 4) (taker_of s n (slot_with n k).used) None) None))
 
 -- ---- ways
 
-abbrev behind_key : Way → ℕ
-behind_key Way.Clear = 0
-behind_key (Way.Behind f) = f.0
+abbrev behind_key : Option Key → ℕ
+behind_key None = 0
+behind_key (Some f) = f.0
 
-abbrev is_behind : Way → Bool
-is_behind Way.Clear = false
-is_behind (Way.Behind f) = true
+abbrev is_behind : Option Key → Bool
+is_behind None = false
+is_behind (Some f) = true
 
-pub not_behind : {A : Type 0} {f : Key} → Way.Clear ≡ Way.Behind f → A
+pub not_behind : {A : Type 0} {f : Key} → None ≡ Some f → A
 not_behind e = absurd (true≢false (sym (ap is_behind e)))
 
-pub behind_same : {f g : Key} → Way.Behind f ≡ Way.Behind g → f.0 ≡ g.0
+pub behind_same : {f g : Key} → Some f ≡ Some g → f.0 ≡ g.0
 behind_same e = ap behind_key e
 
 -- ---- the least
@@ -112,23 +118,23 @@ first_split (suc n) f found none =
     below n f zero l p all = p
     below n f (suc j) l p all = all j (omega (arith, l))
 
-pub least_here : (p : ℕ → Bool) (i : ℕ) → i < key_count → ((j : ℕ) → j < i → p j ≡ false) → p i ≡ true → Way.Behind (key i) ≡ least_of p
+pub least_here : (p : ℕ → Bool) (i : ℕ) → i < key_count → ((j : ℕ) → j < i → p j ≡ false) → p i ≡ true → Some (key i) ≡ least_of p
 unfolding least_of
 least_here p i l before h =
     let e : first_of p ≡ i = first_at key_count (λ f. not (p f)) i l (λ j b. ap not (before j b)) (ap not h) in
-    sym (ap (λ (j : ℕ). pick (ltb j key_count) (Way.Behind (key j)) Way.Clear) e ∙ ap (λ (b : Bool). pick b (Way.Behind (key i)) Way.Clear) (lt-ltb i key_count l))
+    sym (ap (λ (j : ℕ). pick (ltb j key_count) (Some (key j)) None) e ∙ ap (λ (b : Bool). pick b (Some (key i)) None) (lt-ltb i key_count l))
 
-pub least_none : (p : ℕ → Bool) → ((j : ℕ) → j < key_count → p j ≡ false) → Way.Clear ≡ least_of p
+pub least_none : (p : ℕ → Bool) → ((j : ℕ) → j < key_count → p j ≡ false) → None ≡ least_of p
 unfolding least_of
 least_none p h =
     let e : first_of p ≡ key_count = first_none key_count (λ f. not (p f)) (λ j b. ap not (h j b)) in
-    sym (ap (λ (j : ℕ). pick (ltb j key_count) (Way.Behind (key j)) Way.Clear) e)
+    sym (ap (λ (j : ℕ). pick (ltb j key_count) (Some (key j)) None) e)
 
-least_at : (p : ℕ → Bool) → first_of p < key_count → Way.Behind (key (first_of p)) ≡ least_of p
+least_at : (p : ℕ → Bool) → first_of p < key_count → Some (key (first_of p)) ≡ least_of p
 unfolding least_of
-least_at p l = sym (ap (λ (b : Bool). pick b (Way.Behind (key (first_of p))) Way.Clear) (lt-ltb (first_of p) key_count l))
+least_at p l = sym (ap (λ (b : Bool). pick b (Some (key (first_of p))) None) (lt-ltb (first_of p) key_count l))
 
-pub least_found : (p : ℕ → Bool) (f : Key) → least_of p ≡ Way.Behind f → (f.0 < key_count) × (p f.0 ≡ true)
+pub least_found : (p : ℕ → Bool) (f : Key) → least_of p ≡ Some f → (f.0 < key_count) × (p f.0 ≡ true)
 least_found p f h =
     first_split key_count (λ j. not (p j))
     (λ l q. found l (not-false (p (first_of p)) q))
@@ -139,155 +145,24 @@ least_found p f h =
         let e : first_of p ≡ f.0 = behind_same (least_at p l ∙ h) in
         (subst (λ (j : ℕ). j < key_count) e l, subst (λ (j : ℕ). p j ≡ true) e q)
 
-pub least_missing : (p : ℕ → Bool) → least_of p ≡ Way.Clear → (j : ℕ) → j < key_count → p j ≡ false
+pub least_missing : (p : ℕ → Bool) → least_of p ≡ None → (j : ℕ) → j < key_count → p j ≡ false
 least_missing p h =
     first_split key_count (λ j. not (p j)) (λ l q. not_behind (sym (least_at p l ∙ h))) (λ e all. λ j l. not-true (p j) (all j l))
-
--- ---- what a loop looks at, slot by slot: of the slot x with the key f
-
-module _ (n : Net) (t : Key) (f : ℕ) (x : Slot) (is : x ≡ slot_at n f) where
-  used_slot : used_by n t f ≡ uses_key x t
-  unfolding used_by
-  used_slot = ap (λ (z : Slot). uses_key z t) (sym is)
-
-  pub unused_event : eqb x.kind 2 ≡ false → used_by n t f ≡ false
-  unfolding uses_key
-  unused_event h = used_slot ∙ ap (λ (b : Bool). b && eqb x.used.0 t.0) h
-
-  pub unused_other : eqb x.used.0 t.0 ≡ false → used_by n t f ≡ false
-  unfolding uses_key
-  unused_other h = used_slot ∙ fails _ (λ u. clash (eqb x.used.0 t.0) (and_right (eqb x.kind 2) _ u) h)
-
-  pub used_yes : eqb x.kind 2 ≡ true → eqb x.used.0 t.0 ≡ true → used_by n t f ≡ true
-  unfolding uses_key
-  used_yes p q = used_slot ∙ and_both (eqb x.kind 2) _ p q
-
-  module _ (s : Script) where
-    taken_slot : taken_by s n t f ≡ takes_key s x t
-    unfolding taken_by
-    taken_slot = ap (λ (z : Slot). takes_key s z t) (sym is)
-
-    pub untaken_event : eqb x.kind 2 ≡ false → taken_by s n t f ≡ false
-    unfolding takes_key
-    untaken_event h = taken_slot ∙ ap (λ (b : Bool). b && (eqb x.used.0 t.0 && eqb (node_with s x.node).kind 2)) h
-
-    pub untaken_other : eqb x.used.0 t.0 ≡ false → taken_by s n t f ≡ false
-    unfolding takes_key
-    untaken_other h =
-        taken_slot ∙
-        fails _ (λ u. clash (eqb x.used.0 t.0) (and_left (eqb x.used.0 t.0) _ (and_right (eqb x.kind 2) _ u)) h)
-
-    pub untaken_node : (a : Action) → a ≡ node_with s x.node → eqb a.kind 2 ≡ false → taken_by s n t f ≡ false
-    unfolding takes_key
-    untaken_node a e h =
-        taken_slot ∙
-        fails _
-        (λ u.
-        clash (eqb (node_with s x.node).kind 2) (and_right (eqb x.used.0 t.0) _ (and_right (eqb x.kind 2) _ u))
-        (ap (λ (z : Action). eqb z.kind 2) (sym e) ∙ h))
-
-    pub taken_yes : (a : Action) → a ≡ node_with s x.node → eqb x.kind 2 ≡ true → eqb x.used.0 t.0 ≡ true → eqb a.kind 2 ≡ true
-        → taken_by s n t f ≡ true
-    unfolding takes_key
-    taken_yes a e p q h =
-        taken_slot ∙
-        and_both (eqb x.kind 2) _ p
-        (and_both (eqb x.used.0 t.0) _ q (ap (λ (z : Action). eqb z.kind 2) (sym e) ∙ h))
-
--- ---- each return of the code, by what it has looked up
-
--- the tests in their order, on slots looked up
-abbrev way_by : Slot → Slot → Slot → Action → Slot → Way → Way → Way
-way_by x first second a t user taker =
-    pick (eqb first.kind 2) (Way.Behind x.first)
-    (pick (is_key x.second)
-    (pick (eqb second.kind 1) Way.Clear (pick (eqb second.kind 2) (Way.Behind x.second) user))
-    (pick (eqb a.kind 3) (pick (eqb t.kind 4) taker Way.Clear) Way.Clear))
-
-module _ (x first second : Slot) (a : Action) (t : Slot) (user taker : Way) where
-  abbrev By : Way
-  By = way_by x first second a t user taker
-
-  by_one : eqb first.kind 2 ≡ true → Way.Behind x.first ≡ By
-  by_one p = rw p
-
-  by_live : eqb first.kind 2 ≡ false → is_key x.second ≡ true → eqb second.kind 1 ≡ true → Way.Clear ≡ By
-  by_live p q r = rw (p, q, r)
-
-  by_two : eqb first.kind 2 ≡ false → is_key x.second ≡ true → eqb second.kind 1 ≡ false → eqb second.kind 2 ≡ true → Way.Behind x.second ≡ By
-  by_two p q r o = rw (p, q, r, o)
-
-  by_a_user : eqb first.kind 2 ≡ false → is_key x.second ≡ true → eqb second.kind 1 ≡ false → eqb second.kind 2 ≡ false → user ≡ By
-  by_a_user p q r o = rw (p, q, r, o)
-
-  by_no_read : eqb first.kind 2 ≡ false → is_key x.second ≡ false → eqb a.kind 3 ≡ false → Way.Clear ≡ By
-  by_no_read p q r = rw (p, q, r)
-
-  by_untaken : eqb first.kind 2 ≡ false → is_key x.second ≡ false → eqb a.kind 3 ≡ true → eqb t.kind 4 ≡ false → Way.Clear ≡ By
-  by_untaken p q r o = rw (p, q, r, o)
-
-  by_a_taker : eqb first.kind 2 ≡ false → is_key x.second ≡ false → eqb a.kind 3 ≡ true → eqb t.kind 4 ≡ true → taker ≡ By
-  by_a_taker p q r o = rw (p, q, r, o)
-
-module _ (s : Script) (n : Net) (k : Key) (x : Slot) (is : x ≡ slot_with n k) (first : Slot) (is_first : first ≡ slot_with n x.first) where
-  looked : (second : Slot) → second ≡ slot_with n x.second → (a : Action) → a ≡ node_with s x.node → (t : Slot) → t ≡ slot_with n x.used
-      → (user : Way) → user ≡ user_of n x.second → (taker : Way) → taker ≡ taker_of s n x.used
-      → way_by x first second a t user taker ≡ way_of s n k
-  unfolding way_of
-  looked second is-second a is-a t is-t user is-user taker is-taker =
-      (λ i. way_by x (is_first i) (is-second i) (is-a i) (is-t i) (is-user i) (is-taker i)) ∙
-      ap (λ (z : Slot). way_by z (slot_with n z.first) (slot_with n z.second) (node_with s z.node) (slot_with n z.used) (user_of n z.second) (taker_of s n z.used)) is
-
-  abbrev second₀ : Slot
-  second₀ = slot_with n x.second
-
-  abbrev action₀ : Action
-  action₀ = node_with s x.node
-
-  abbrev tuple₀ : Slot
-  tuple₀ = slot_with n x.used
-
-  abbrev user₀ : Way
-  user₀ = user_of n x.second
-
-  abbrev taker₀ : Way
-  taker₀ = taker_of s n x.used
-
-  pub returns_first : eqb first.kind 2 ≡ true → Way.Behind x.first ≡ way_of s n k
-  returns_first p = by_one x first second₀ action₀ tuple₀ user₀ taker₀ p ∙ looked _ refl _ refl _ refl _ refl _ refl
-
-  pub returns_live : (second : Slot) → second ≡ slot_with n x.second → eqb first.kind 2 ≡ false → is_key x.second ≡ true → eqb second.kind 1 ≡ true → Way.Clear ≡ way_of s n k
-  returns_live second e p q r = by_live x first second action₀ tuple₀ user₀ taker₀ p q r ∙ looked second e _ refl _ refl _ refl _ refl
-
-  pub returns_second : (second : Slot) → second ≡ slot_with n x.second → eqb first.kind 2 ≡ false → is_key x.second ≡ true → eqb second.kind 1 ≡ false → eqb second.kind 2 ≡ true → Way.Behind x.second ≡ way_of s n k
-  returns_second second e p q r o = by_two x first second action₀ tuple₀ user₀ taker₀ p q r o ∙ looked second e _ refl _ refl _ refl _ refl
-
-  pub returns_user : (second : Slot) → second ≡ slot_with n x.second → (user : Way) → user ≡ user_of n x.second → eqb first.kind 2 ≡ false → is_key x.second ≡ true → eqb second.kind 1 ≡ false → eqb second.kind 2 ≡ false → user ≡ way_of s n k
-  returns_user second e user u p q r o = by_a_user x first second action₀ tuple₀ user taker₀ p q r o ∙ looked second e _ refl _ refl user u _ refl
-
-  pub returns_no_read : (a : Action) → a ≡ node_with s x.node → eqb first.kind 2 ≡ false → is_key x.second ≡ false → eqb a.kind 3 ≡ false → Way.Clear ≡ way_of s n k
-  returns_no_read a e p q r = by_no_read x first second₀ a tuple₀ user₀ taker₀ p q r ∙ looked _ refl a e _ refl _ refl _ refl
-
-  pub returns_untaken : (a : Action) → a ≡ node_with s x.node → (t : Slot) → t ≡ slot_with n x.used → eqb first.kind 2 ≡ false → is_key x.second ≡ false → eqb a.kind 3 ≡ true → eqb t.kind 4 ≡ false → Way.Clear ≡ way_of s n k
-  returns_untaken a e t g p q r o = by_untaken x first second₀ a t user₀ taker₀ p q r o ∙ looked _ refl a e t g _ refl _ refl
-
-  pub returns_taker : (a : Action) → a ≡ node_with s x.node → (t : Slot) → t ≡ slot_with n x.used → (taker : Way) → taker ≡ taker_of s n x.used → eqb first.kind 2 ≡ false → is_key x.second ≡ false → eqb a.kind 3 ≡ true → eqb t.kind 4 ≡ true → taker ≡ way_of s n k
-  returns_taker a e t g taker v p q r o = by_a_taker x first second₀ a t user₀ taker p q r o ∙ looked _ refl a e t g _ refl taker v
 
 -- ---- each way out
 
 -- the answer o, from the tests a to f in the code's order and from what each leads to
-data Out (a b c d e f : Bool) (one two user taker o : Way) : Type 0 where
+data Out (a b c d e f : Bool) (one two user taker o : Option Key) : Type 0 where
   by_first : a ≡ true → one ≡ o → Out a b c d e f one two user taker o
-  second_live : a ≡ false → b ≡ true → c ≡ true → Way.Clear ≡ o → Out a b c d e f one two user taker o
+  second_live : a ≡ false → b ≡ true → c ≡ true → None ≡ o → Out a b c d e f one two user taker o
   by_second : a ≡ false → b ≡ true → c ≡ false → d ≡ true → two ≡ o → Out a b c d e f one two user taker o
   by_user : a ≡ false → b ≡ true → c ≡ false → d ≡ false → user ≡ o → Out a b c d e f one two user taker o
   by_taker : a ≡ false → b ≡ false → e ≡ true → f ≡ true → taker ≡ o → Out a b c d e f one two user taker o
-  not_taken : a ≡ false → b ≡ false → e ≡ true → f ≡ false → Way.Clear ≡ o → Out a b c d e f one two user taker o
-  no_read : a ≡ false → b ≡ false → e ≡ false → Way.Clear ≡ o → Out a b c d e f one two user taker o
+  not_taken : a ≡ false → b ≡ false → e ≡ true → f ≡ false → None ≡ o → Out a b c d e f one two user taker o
+  no_read : a ≡ false → b ≡ false → e ≡ false → None ≡ o → Out a b c d e f one two user taker o
 
-outs : (a b c d e f : Bool) (one two user taker o : Way)
-    → pick a one (pick b (pick c Way.Clear (pick d two user)) (pick e (pick f taker Way.Clear) Way.Clear)) ≡ o
+outs : (a b c d e f : Bool) (one two user taker o : Option Key)
+    → pick a one (pick b (pick c None (pick d two user)) (pick e (pick f taker None) None)) ≡ o
     → Out a b c d e f one two user taker o
 outs true b c d e f one two user taker o h = by_first refl h
 outs false true true d e f one two user taker o h = second_live refl refl refl h
@@ -407,13 +282,13 @@ module _ (s : Script) (w : ShapedScript s) (n : Net) where
     abbrev event : N.Slot (rules_of s)
     event = W.slot k.0
 
-    abbrev Outs : Way → Type 0
+    abbrev Outs : Option Key → Type 0
     Outs o =
         Out (eqb (slot_with n x.first).kind 2) (is_key x.second) (eqb (slot_with n x.second).kind 1)
         (eqb (slot_with n x.second).kind 2) (eqb (node_with s x.node).kind 3) (eqb (slot_with n x.used).kind 4)
-        (Way.Behind x.first) (Way.Behind x.second) (user_of n x.second) (taker_of s n x.used) o
+        (Some x.first) (Some x.second) (user_of n x.second) (taker_of s n x.used) o
 
-    ways : (o : Way) → way_of s n k ≡ o → Outs o
+    ways : (o : Option Key) → way_of s n k ≡ o → Outs o
     unfolding way_of
     ways o h = outs _ _ _ _ _ _ _ _ _ _ o h
 
@@ -467,11 +342,11 @@ module _ (s : Script) (w : ShapedScript s) (n : Net) where
         after f (took_past x.used.0 (W.slot f) t)
         (read_before (ap (reads W k.0) e ∙ reads_used r) (ap (takes W f) e ∙ t))
 
-    pub way_behind : (f : Key) → way_of s n k ≡ Way.Behind f → (f.0 ∈ events (view s n)) × (depends (view s n) k.0 f.0 ≡ true)
+    pub way_behind : (f : Key) → way_of s n k ≡ Some f → (f.0 ∈ events (view s n)) × (depends (view s n) k.0 f.0 ≡ true)
     unfolding user_of taker_of
-    way_behind f h = found (ways (Way.Behind f) h)
+    way_behind f h = found (ways (Some f) h)
       where
-        found : Outs (Way.Behind f) → After f.0
+        found : Outs (Some f) → After f.0
         found (by_first a e) = subst After (behind_same e) (after x.first.0 (past_at x.first ∙ a) (made_key_lem makes_first))
         found (second_live a b c e) = not_behind e
         found (by_second a b c d e) =
@@ -483,7 +358,7 @@ module _ (s : Script) (w : ShapedScript s) (n : Net) where
 
     -- ---- where nothing is in the way, nothing depends on it
 
-    no_first : Outs Way.Clear → events W x.first.0 ≡ false
+    no_first : Outs None → events W x.first.0 ≡ false
     no_first (by_first a e) = not_behind (sym e)
     no_first (second_live a b c e) = past_at x.first ∙ a
     no_first (by_second a b c d e) = past_at x.first ∙ a
@@ -495,7 +370,7 @@ module _ (s : Script) (w : ShapedScript s) (n : Net) where
     live_no_event : (c : ℕ) → eqb c 1 ≡ true → eqb c 2 ≡ false
     live_no_event c h = let e = eqb-true c 1 h in ne_eqb c 2 (λ q. omega arith)
 
-    no_second : is_key x.second ≡ true → Outs Way.Clear → events W x.second.0 ≡ false
+    no_second : is_key x.second ≡ true → Outs None → events W x.second.0 ≡ false
     no_second h (by_first a e) = not_behind (sym e)
     no_second h (second_live a b c e) = past_at x.second ∙ live_no_event (slot_with n x.second).kind c
     no_second h (by_second a b c d e) = not_behind (sym e)
@@ -505,7 +380,7 @@ module _ (s : Script) (w : ShapedScript s) (n : Net) where
     no_second h (no_read a b r e) = clash (is_key x.second) h b
 
     -- a tuple at the second key was not used
-    no_user : is_key x.second ≡ true → is_live (W.slot x.second.0).kind ≡ false → Outs Way.Clear → (f : ℕ) → f < key_count
+    no_user : is_key x.second ≡ true → is_live (W.slot x.second.0).kind ≡ false → Outs None → (f : ℕ) → f < key_count
         → used_by n x.second f ≡ false
     unfolding user_of
     no_user h q (by_first a e) f l = not_behind (sym e)
@@ -517,7 +392,7 @@ module _ (s : Script) (w : ShapedScript s) (n : Net) where
     no_user h q (no_read a b r e) f l = clash (is_key x.second) h b
 
     -- a consumed tuple that it read was not taken
-    no_taker : is_key x.second ≡ false → eqb (node_with s x.node).kind 3 ≡ true → eqb (slot_with n x.used).kind 4 ≡ true → Outs Way.Clear
+    no_taker : is_key x.second ≡ false → eqb (node_with s x.node).kind 3 ≡ true → eqb (slot_with n x.used).kind 4 ≡ true → Outs None
         → (f : ℕ) → f < key_count → taken_by s n x.used f ≡ false
     unfolding taker_of
     no_taker h p q (by_first a e) f l = not_behind (sym e)
@@ -531,7 +406,7 @@ module _ (s : Script) (w : ShapedScript s) (n : Net) where
     second_key : (j : ℕ) → j ≡ x.second.0 → makes W k.0 j ≡ true → is_key x.second ≡ true
     second_key j e m = lt-ltb x.second.0 key_count (subst (λ (i : ℕ). i < key_count) e (made_below j event m))
 
-    no_cause : Outs Way.Clear → (f : ℕ) → f ∈ events W → Cause W k.0 f → ⊥
+    no_cause : Outs None → (f : ℕ) → f ∈ events W → Cause W k.0 f → ⊥
     no_cause o f p (made_key_lem m) =
         ⊎_elim
         (λ (q : event.first ≡ f).
@@ -561,24 +436,24 @@ module _ (s : Script) (w : ShapedScript s) (n : Net) where
         clash (taken_by s n x.used f) (taken_is x.used f l ∙ ap (takes W f) (sym e) ∙ t)
         (no_taker not_key (sym act_at_event ∙ act) gone o f l)
 
-    pub way_clear : way_of s n k ≡ Way.Clear → (f : ℕ) → depends (view s n) k.0 f ≡ false
+    pub way_clear : way_of s n k ≡ None → (f : ℕ) → depends (view s n) k.0 f ≡ false
     way_clear h f =
         fails (depends W k.0 f)
-        (λ d. let (p, c) = depends_cause W k.0 f d in no_cause (ways Way.Clear h) f p c)
+        (λ d. let (p, c) = depends_cause W k.0 f d in no_cause (ways None h) f p c)
 
     -- ---- whether it may be undone
 
-    pub clear_undoable : way_of s n k ≡ Way.Clear → Undoable (view s n) k.0
+    pub clear_undoable : way_of s n k ≡ None → Undoable (view s n) k.0
     clear_undoable h =
         last_undoable W ok k.0 (record { member = past; none = λ f d. clash (depends W k.0 f) d (way_clear h f) })
 
-    pub behind_not : (f : Key) → way_of s n k ≡ Way.Behind f → Undoable (view s n) k.0 → ⊥
+    pub behind_not : (f : Key) → way_of s n k ≡ Some f → Undoable (view s n) k.0 → ⊥
     behind_not f h u =
         let (p, d) = way_behind f h in clash (events W f.0) p ((undoable_last W ok k.0 u).none f.0 d)
 
-    pub undoable_clear : Undoable (view s n) k.0 → way_of s n k ≡ Way.Clear
+    pub undoable_clear : Undoable (view s n) k.0 → way_of s n k ≡ None
     undoable_clear u = found (way_of s n k) refl
       where
-        found : (o : Way) → way_of s n k ≡ o → way_of s n k ≡ Way.Clear
-        found Way.Clear e = e
-        found (Way.Behind f) e = absurd (behind_not f e u)
+        found : (o : Option Key) → way_of s n k ≡ o → way_of s n k ≡ None
+        found None e = e
+        found (Some f) e = absurd (behind_not f e u)

@@ -3,205 +3,136 @@ ghost use Rattle.std.specs.Prelude.{◌≡◌, true, eqb};
 ghost use Rattle.names.specs.Names.{is_key};
 ghost use Rattle.images.specs.Net.{is_free, slot_with};
 ghost use Rattle.images.specs.Read.{action_of, net_of};
-ghost use Rattle.images.specs.Sizes.{NodeSized, Sized};
 ghost use Rattle.requests.specs.Answers.{as_needed, no_places};
-ghost use Rattle.products.specs.Products.{is_step, meets_tuple, target_there};
-ghost use Rattle.requests.specs.Requests.{asked, is_done};
-ghost use Rattle.step.specs.Tests.{checked, places_by, tuple_there, template_met, second_fresh, place_fresh, names_fresh};
+ghost use Rattle.requests.specs.Requests.{asked};
+ghost use Rattle.products.specs.Products.{is_step, meets_tuple};
+ghost use Rattle.step.specs.Tests.{places_by, tuple_there, template_answer, second_fresh, place_fresh, names_fresh};
 
-use super::Check;
-use images::net_image::{SLOT_SIZE, kind_in, locality_in, present_in, start};
-use images::script_image::action_of;
+use images::net_image::{NetBytes, kind_in, locality_in, present_in, slot_bytes};
+use images::script_image::{NodeBytes, action_of};
 use images::{Action, Datum, Slot};
-use matching::{Match, match_tuple};
-use names::{Key, Localities, Locality, NONE, Variable};
-use products::{is_step, makes_second, meets_tuple, target_there};
-use requests::{Answer, Request, number};
+use matching::{Mismatch, match_tuple};
+use names::{Key, Localities, Locality, NONE, Name, NameSet, Variable};
+use products::{is_step, makes_second, meets_tuple};
+use requests::Request;
 use rules::is_makeable;
-
-pub fn told(b: bool) -> Check
-    ensures { result ≡ checked b }
-{
-    if b {
-        return Check::Holds;
-    }
-    Check::Fails
-}
 
 // ---- 4 and 5: the process and its node
 
-pub fn is_live(x: Slot) -> Check
-    ensures { result ≡ checked (eqb x.kind 1) }
+pub fn is_live(x: Slot) -> bool
+    ensures { result ≡ eqb x.kind 1 }
 {
-    let b = x.kind == Slot::LIVE;
-    told(b)
+    x.kind == Slot::LIVE
 }
 
-pub fn is_past(x: Slot) -> Check
-    ensures { result ≡ checked (eqb x.kind 2) }
+pub fn is_past(x: Slot) -> bool
+    ensures { result ≡ eqb x.kind 2 }
 {
-    let b = x.kind == Slot::PAST;
-    told(b)
+    x.kind == Slot::PAST
 }
 
-pub fn acts(a: Action) -> Check
-    ensures { result ≡ checked (is_step a.kind) }
+pub fn acts(a: Action) -> bool
+    ensures { result ≡ is_step a.kind }
 {
-    let b = is_step(a.kind);
-    told(b)
+    is_step(a.kind)
 }
 
 // ---- 6: a needed place is given, and an unneeded one is none
 
-fn as_needed(need: bool, b: u8) -> bool
-    ensures { result ≡ as_needed need b }
+fn as_needed<N: Name>(need: bool, name: N) -> bool
+    ensures { result ≡ as_needed need (N.number_of name) }
 {
-    let given = b != NONE;
-    if need {
-        return given;
-    }
-    !given
+    need == (name.number() != NONE)
 }
 
-pub fn places_given(kind: u8, r: Request) -> Check
-    ensures { result ≡ checked (places_by kind r) }
+#[tactic(auto, unfolding(crate::specs::Tests::places_by))]
+pub fn places_given(kind: u8, r: Request) -> bool
+    ensures { result ≡ places_by kind r }
 {
-    let meets = meets_tuple(kind);
-    if !as_needed(meets, r.used.0) {
-        return Check::Fails;
-    }
-    if !as_needed(true, r.first.0) {
-        return Check::Fails;
-    }
-    let two = makes_second(kind);
-    if !as_needed(two, r.second.0) {
-        return Check::Fails;
-    }
-    let makes = kind == Action::NEWLOC;
-    let b = as_needed(makes, r.place.0);
-    told(b)
+    as_needed(meets_tuple(kind), r.used)
+        && as_needed(true, r.first)
+        && as_needed(makes_second(kind), r.second)
+        && as_needed(kind == Action::NEWLOC, r.place)
 }
 
-pub fn none_placed(r: Request) -> Check
-    ensures { result ≡ checked (no_places (asked r)) }
+#[tactic(auto, unfolding(requests::specs::Answers::no_places))]
+pub fn none_placed(r: Request) -> bool
+    ensures { result ≡ no_places (asked r) }
 {
-    if !as_needed(false, r.used.0) {
-        return Check::Fails;
-    }
-    if !as_needed(false, r.first.0) {
-        return Check::Fails;
-    }
-    if !as_needed(false, r.second.0) {
-        return Check::Fails;
-    }
-    let b = as_needed(false, r.place.0);
-    told(b)
+    as_needed(false, r.used)
+        && as_needed(false, r.first)
+        && as_needed(false, r.second)
+        && as_needed(false, r.place)
 }
 
-// ---- 8, 9 and 10: the target, the tuple there, and the match
+// ---- 9 and 10: the tuple there, and the match
 
-pub fn target_present(kind: u8, present: Localities, l: Locality) -> Check
-    ensures { result ≡ checked (target_there kind present l) }
-{
-    let b = target_there(kind, present, l);
-    told(b)
-}
-
-pub fn tuple_there(kind: u8, net: &[u8], used: Key, l: Locality) -> Check
-    requires { Sized net.now }
-    ensures { result ≡ checked (tuple_there kind (slot_with (net_of net.now) used) l) }
+#[tactic(auto, unfolding(crate::specs::Tests::tuple_there))]
+pub fn tuple_there(kind: u8, net: &NetBytes, used: Key, l: Locality) -> bool
+    ensures { result ≡ tuple_there kind (slot_with (net_of net.now) used) l }
 {
     if !meets_tuple(kind) {
-        return Check::Holds;
+        return true;
     }
-    if kind_in(net, used) != Slot::TUPLE {
-        return Check::Fails;
-    }
-    let at = locality_in(net, used);
-    let b = at.0 == l.0;
-    told(b)
+    kind_in(net, used) == Slot::TUPLE && locality_in(net, used) == l
 }
 
 // The node's template against the tuple with this key; a node that meets none asks nothing.
-pub fn template_met(vars: [Datum; Variable::COUNT], node: &[u8], net: &[u8], used: Key) -> Check
-    requires sized { NodeSized node.now × Sized net.now }
-    requires used_is_key { (meets_tuple (action_of node.now).kind ≡ true) → (is_key used ≡ true) }
-    ensures { result ≡ checked (template_met (action_of node.now) vars (slot_with (net_of net.now) used)) }
+#[tactic(auto, unfolding(crate::specs::Tests::template_answer))]
+pub fn template_met(
+    vars: [Datum; Variable::COUNT],
+    node: &NodeBytes,
+    net: &NetBytes,
+    used: Key,
+) -> Result<(), Mismatch>
+    requires { (meets_tuple (action_of node.now).kind ≡ true) → (is_key used ≡ true) }
+    ensures { result ≡ template_answer (action_of node.now) vars (slot_with (net_of net.now) used) }
 {
     let a = action_of(node);
     if !meets_tuple(a.kind) {
-        return Check::Holds;
+        return Ok(());
     }
-    let at = start(used);
-    let met = match_tuple(vars, node, &net[at..at + SLOT_SIZE]);
-    let Match::Matches = met else {
-        return Check::Fails;
-    };
-    Check::Holds
+    let tuple = slot_bytes(net, used.0 as usize);
+    match_tuple(vars, node, tuple)
 }
 
 // ---- 11: fresh names
 
 // Of the second key: its slot is free, and it is not the first.
+#[tactic(auto, unfolding(crate::specs::Tests::second_fresh))]
 fn second_fresh(kind: u8, free: bool, r: Request) -> bool
     ensures { result ≡ second_fresh kind free r }
 {
     if !makes_second(kind) {
         return true;
     }
-    if !free {
-        return false;
-    }
-    r.first.0 != r.second.0
+    free && r.first != r.second
 }
 
+#[tactic(auto, unfolding(crate::specs::Tests::place_fresh))]
 fn place_fresh(kind: u8, present: Localities, l: Locality) -> bool
     ensures { result ≡ place_fresh kind present l }
 {
     if kind != Action::NEWLOC {
         return true;
     }
-    if !is_makeable(l) {
-        return false;
-    }
-    !present.has(l)
+    is_makeable(l) && !present.has(l)
 }
 
 // "a fresh key not free": nothing is held there.
-fn is_free_in(net: &[u8], k: Key) -> bool
-    requires { Sized net.now }
+fn is_free_in(net: &NetBytes, k: Key) -> bool
     ensures { result ≡ is_free (slot_with (net_of net.now) k) }
 {
     let kind = kind_in(net, k);
-    if kind == Slot::FREE {
-        return true;
-    }
-    Slot::CONSUMED < kind
+    kind == Slot::FREE || Slot::CONSUMED < kind
 }
 
 // The fresh names that the request gives, in this net.
-pub fn names_fresh(kind: u8, net: &[u8], r: Request) -> Check
-    requires { Sized net.now }
-    ensures { result ≡ checked (names_fresh kind (is_free (slot_with (net_of net.now) r.first)) (is_free (slot_with (net_of net.now) r.second)) (net_of net.now).present r) }
+#[tactic(auto, unfolding(crate::specs::Tests::names_fresh))]
+pub fn names_fresh(kind: u8, net: &NetBytes, r: Request) -> bool
+    ensures { result ≡ names_fresh kind (is_free (slot_with (net_of net.now) r.first)) (is_free (slot_with (net_of net.now) r.second)) (net_of net.now).present r }
 {
-    if !is_free_in(net, r.first) {
-        return Check::Fails;
-    }
-    let free = is_free_in(net, r.second);
-    if !second_fresh(kind, free, r) {
-        return Check::Fails;
-    }
-    let present = present_in(net);
-    let b = place_fresh(kind, present, r.place);
-    told(b)
-}
-
-// ---- the checks together
-
-// No check refused.
-pub fn all_hold(a: Answer) -> Check
-    ensures { result ≡ checked (is_done a) }
-{
-    let b = number(a) == 0;
-    told(b)
+    is_free_in(net, r.first)
+        && second_fresh(kind, is_free_in(net, r.second), r)
+        && place_fresh(kind, present_in(net), r.place)
 }

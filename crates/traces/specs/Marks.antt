@@ -1,17 +1,18 @@
 -- What each turn of a loop over the events finds: the laws that its proof applies, over plain variables.
 --
--- In order: a slot that was looked up holds an event or none (`event_is`); the kind of a node that was looked up (`no_node`, `node_kind`,
--- `whole_script`); the deeds, with one slot more (`deeds_start`, `deeds_none`, `deeds_more`,
--- `deeds_all`); numbers that rows speak of, and whether each was spoken of once, at any width W (`Seen`, `seen`, `saw`), with one row more, of
--- no number, one, or two (`seen_none`, `seen_one`, `seen_two`); events as a set, with one slot more (`event_none`, `event_more`); marks of keys
--- and of localities, with one row more (`keys_none`, `keys_one`, `keys_two`); what one event more made or used (`made_none`, `made_more`,
--- `used_none`, `used_more`, `place_none`, `place_more`); no event yet (`keys_start`, `places_start`); users of tuples, with no event yet and one
--- slot more (`users_start`, `users_none`, `users_away`, `users_more`); a row from what was looked up (`place_found`,
--- `key_looked`, `read_looked`, `row_looked`); the rows of dependence, with one slot more (`rows_start`, `rows_none`, `rows_more`, `rows_all`).
+-- In order: a slot that was looked up by its key (`at_key`), which holds an event or none (`event_is`); the kind of a node that was looked up
+-- (`no_node`, `node_kind`, `whole_script`); the deeds, with one slot more (`deeds_start`, `deeds_none`, `deeds_more`, `deeds_all`); numbers that
+-- rows speak of, and whether each was spoken of once, at any width W (`Seen`, `seen`, `saw`), with one row more, of no number, one, or two
+-- (`seen_none`, `seen_one`, `seen_two`); events as a set, with no slot yet and one more (`event_start`, `event_none`, `event_more`); marks of names
+-- of any kind, with no row yet and one more (`marks_start`, `marks_none`, `marks_one`), or one event more that speaks of one name (`named_none`,
+-- `named_more`); marks of keys, with no row yet and one more (`keys_start`, `keys_none`, `keys_one`, `keys_two`), and what one event more made or
+-- used (`made_none`, `made_more`, `used_none`, `used_more`); marks of localities (`places_start`, `place_none`, `place_more`); users of tuples, with
+-- no event yet and one slot more (`users_start`, `users_none`, `users_away`, `users_more`); a row from what was looked up (`key_looked`,
+-- `read_looked`, `row_looked`); the rows of dependence, with one slot more (`rows_start`, `rows_none`, `rows_more`, `rows_all`).
 -- Assumes nothing.
 use Rattle.std.specs.Prelude.{◌≡◌, Bool, not, ◌&&◌, ◌||◌, ◌≢◌, ℕ, ◌+◌, ◌≤◌, ◌<◌, eqb, ltb, length, replicate}
 use Rattle.std.proofs.Math.Path.{refl, sym, ap}
-use Rattle.std.proofs.Common.{ap₂, ◌∙◌, subst, not-suc-le-zero, arith, pow_pos}
+use Rattle.std.proofs.Common.{ap₂, ◌∙◌, not-suc-le-zero, arith, pow_pos}
 use Rattle.std.proofs.Math.Bool.{true, false, and-true, and-false, or-false}
 use mathlib.Core.List.{List}
 use Rattle.std.proofs.Math.ListN.{set, get_or-replicate, get_or-eq_default}
@@ -23,28 +24,31 @@ use Rattle.laws.specs.Sets.{member, including, member_including_other, member_em
 use Rattle.order.specs.KeySets.{Set, only, ◌∪◌, ◌∩◌, any, any_not}
 use Rattle.order.specs.Distinct.{gathered, gathered_next, distinct, distinct_next, row_none, row_one, row_two}
 use Rattle.order.specs.Words.{word_of, word_of_in, word_of_is, word_of_next, word_of_ext, word_of_more}
-use Rattle.names.specs.Names.{key_count, locality_count, node_count, is_key, is_node}
+use Rattle.names.specs.Names.{key_count, locality_count, node_count, key, is_key, is_node}
 use Rattle.names.specs.KeySets.{keys, either}
 use Rattle.names.specs.Localities.{localities}
 use Rattle.names.specs.declared.Key.{Key}
 use Rattle.names.specs.declared.Keys.{Keys}
+use Rattle.names.specs.declared.Localities.{Localities}
 use Rattle.names.specs.declared.Locality.{Locality}
 use Rattle.names.specs.declared.Node.{Node}
 use Rattle.images.specs.Script.{action0, action_at}
-use Rattle.images.specs.Net.{slot_at, index_of}
-use Rattle.images.specs.Lookup.{index_below}
+use Rattle.images.specs.Net.{slot_at, slot_with, index_of}
 use Rattle.images.specs.Head.{part_at}
 use Rattle.images.specs.Read.{action_of, script_of, node_with}
 use Rattle.images.specs.declared.Action.{Action}
 use Rattle.images.specs.declared.Script.{Script}
 use Rattle.images.specs.declared.Slot.{Slot}
 use Rattle.images.specs.declared.Net.{Net}
-use Rattle.traces.specs.Traces.{deed_of, deeds_of, deed_at, is_event, made_at, used_at, place_at, marked_key, marked_keys, marked_place, key_marks, place_marks, keys_at, users_at, users_below, users_of, after_key_by, after_read_by, after_key, after_read, row_of, row_at, rows_of}
-use Rattle.traces.specs.declared.KeyMarks.{KeyMarks}
-use Rattle.traces.specs.declared.PlaceMarks.{PlaceMarks}
+use Rattle.traces.specs.Traces.{deed_of, deeds_of, deed_at, is_event, made_at, named_at, used_at, place_at, marked, marked_key, marked_keys, marked_place, marks, key_marks, place_marks, keys_at, users_at, users_below, users_of, after_key_by, after_read_by, after_key, after_read, row_of, row_at, rows_of}
+use Rattle.traces.specs.declared.Marks.{Marks}
 use Rattle.traces.specs.Fill.{store_tab, filled, filled_start, filled_blank, filled_store, filled_all}
 
 -- ---- what each event did
+
+-- the slot with a key is the one at its number
+pub at_key : (n : Net) (e : ℕ) → e < key_count → slot_with n (key e) ≡ slot_at n e
+at_key n e l = rw (lt-ltb e key_count l)
 
 -- a slot that was looked up holds an event or none
 event_is : (n : Net) (e : ℕ) (x : Slot) {b : Bool} → x ≡ slot_at n e → eqb x.kind 2 ≡ b → is_event n e ≡ b
@@ -179,39 +183,87 @@ module _ (W i : ℕ) (Q : ℕ → Set) where
 
 -- ---- events as a set
 
--- with one slot more, which holds no event or holds one
-module _ (n : Net) (e : ℕ) (s : Keys) (h : s ≡ keys (word_of e (is_event n))) (x : Slot) (is : x ≡ slot_at n e) where
-  pub event_none : eqb x.kind 2 ≡ false → s ≡ keys (word_of (e + 1) (is_event n))
-  event_none p = h ∙ sym (ap keys (word_of_next e (is_event n) ∙ rw (event_is n e x is p)))
+-- none yet
+pub event_start : (n : Net) → keys 0 ≡ keys (word_of 0 (is_event n))
+unfolding word_of
+event_start n = refl
 
-  pub event_more : eqb x.kind 2 ≡ true → keys (including s.0 e) ≡ keys (word_of (e + 1) (is_event n))
+-- with one slot more, whose kind was looked up: it holds no event or holds one
+module _ (n : Net) (e : ℕ) (s : Keys) (h : s ≡ keys (word_of e (is_event n))) (kind : ℕ) (is : kind ≡ (slot_at n e).kind) where
+  pub event_none : eqb kind 2 ≡ false → s ≡ keys (word_of (e + 1) (is_event n))
+  event_none p = h ∙ sym (ap keys (word_of_next e (is_event n) ∙ rw (← is, p)))
+
+  pub event_more : eqb kind 2 ≡ true → keys (including s.0 e) ≡ keys (word_of (e + 1) (is_event n))
   event_more p =
       ap (λ (y : Keys). keys (including y.0 e)) h ∙
-      sym (ap keys (word_of_next e (is_event n) ∙ rw (event_is n e x is p)))
+      sym (ap keys (word_of_next e (is_event n) ∙ rw (← is, p)))
 
--- ---- marks of keys
+-- ---- marks of names
+
+no_numbers : (W : ℕ) (Q : ℕ → Set) → word_of W (gathered 0 Q) ≡ 0
+no_numbers W Q =
+    sym
+    (word_of_is W (gathered 0 Q) 0 (pow_pos W)
+    (λ k _. member_empty k ∙ sym (any_not 0 (λ e. Q e k) (λ x l. absurd (not-suc-le-zero l)))))
+
+-- of any kind, whose sets are words
+module _ {A N : Type 0} (set_of : ℕ → A) (word : A → ℕ) (number_of : N → ℕ) (limit : ℕ) (back : (w : ℕ) → word (set_of w) ≡ w) where
+  -- the same as marks
+  abbrev marks_as : Seen → Marks A
+  marks_as m = record { once = m.once; names = set_of m.word }
+
+  marked_lem : (m : Seen) (a : N) → marks_as (saw limit m (number_of a)) ≡ marked set_of word number_of limit (marks_as m) a
+  unfolding marked
+  marked_lem m a = cases (ltb (number_of a) limit) (λ p. rw (p, back m.word)) (λ p. rw p)
+
+  pub marks_start : (Q : ℕ → Set) → marks set_of limit 0 Q ≡ record { once = true; names = set_of 0 }
+  unfolding marks distinct
+  marks_start Q = λ t. record { once = true; names = set_of (no_numbers limit Q t) }
+
+  module _ (i : ℕ) (Q : ℕ → Set) where
+    pub marks_none : ((k : ℕ) → k < limit → Q i k ≡ false) → marks set_of limit (i + 1) Q ≡ marks set_of limit i Q
+    unfolding marks
+    marks_none h = ap marks_as (seen_none limit i Q h)
+
+    pub marks_one : (a : N) → ((k : ℕ) → k < limit → Q i k ≡ eqb (number_of a) k) → marks set_of limit (i + 1) Q ≡ marked set_of word number_of limit (marks set_of limit i Q) a
+    unfolding marks
+    marks_one a h =
+        ap marks_as (seen_one limit i Q (number_of a) (λ k l. h k l ∙ same_number (number_of a) k)) ∙ marked_lem (seen limit i Q) a
+
+  -- the names that events of the deed d speak of, with one more slot
+  module _ (d : ℕ) (ds : List ℕ) (name : ℕ → ℕ) (e : ℕ) (m : Marks A) (h : m ≡ marks set_of limit e (named_at d ds name)) where
+    pub named_none : eqb (deed_at ds e) d ≡ false → m ≡ marks set_of limit (e + 1) (named_at d ds name)
+    named_none p = h ∙ sym (marks_none e (named_at d ds name) (λ k l. rw p))
+
+    pub named_more : eqb (deed_at ds e) d ≡ true → (a : N) → number_of a ≡ name e → marked set_of word number_of limit m a ≡ marks set_of limit (e + 1) (named_at d ds name)
+    named_more p a is =
+        ap (λ (y : Marks A). marked set_of word number_of limit y a) h ∙
+        sym (marks_one e (named_at d ds name) a (λ k l. rw (p, is)))
+
+-- of keys
+abbrev word_back : (w : ℕ) → (keys w).0 ≡ w
+word_back w = refl
+
+pub keys_start : (Q : ℕ → Set) → key_marks 0 Q ≡ record { once = true; names = keys 0 }
+keys_start = marks_start keys (λ s. s.0) (λ (k : Key). k.0) key_count word_back
 
 -- the same as marks
-abbrev key_marks_of : Seen → KeyMarks
-key_marks_of m = record { once = m.once; keys = keys m.word }
+abbrev as_keys : Seen → Marks Keys
+as_keys m = record { once = m.once; names = keys m.word }
 
-marked_key_lem : (m : Seen) (a : Key) → key_marks_of (saw key_count m a.0) ≡ marked_key (key_marks_of m) a
-unfolding marked_key
-marked_key_lem m a = cases (ltb a.0 key_count) (λ p. rw p) (λ p. rw p)
+one_more : (m : Seen) (a : Key) → as_keys (saw key_count m a.0) ≡ marked_key (as_keys m) a
+one_more = marked_lem keys (λ s. s.0) (λ (k : Key). k.0) key_count word_back
 
 module _ (i : ℕ) (Q : ℕ → Set) where
   pub keys_none : ((k : ℕ) → k < key_count → Q i k ≡ false) → key_marks (i + 1) Q ≡ key_marks i Q
-  unfolding key_marks
-  keys_none h = ap key_marks_of (seen_none key_count i Q h)
+  keys_none = marks_none keys (λ s. s.0) (λ (k : Key). k.0) key_count word_back i Q
 
   pub keys_one : (a : Key) → ((k : ℕ) → k < key_count → Q i k ≡ eqb a.0 k) → key_marks (i + 1) Q ≡ marked_key (key_marks i Q) a
-  unfolding key_marks
-  keys_one a h =
-      ap key_marks_of (seen_one key_count i Q a.0 (λ k l. h k l ∙ same_number a.0 k)) ∙ marked_key_lem (seen key_count i Q) a
+  keys_one = marks_one keys (λ s. s.0) (λ (k : Key). k.0) key_count word_back i Q
 
   -- "3 and 4 keys made"
   pub keys_two : (a b : Key) → ((k : ℕ) → k < key_count → Q i k ≡ (eqb a.0 k || eqb b.0 k)) → key_marks (i + 1) Q ≡ marked_keys (key_marks i Q) a b
-  unfolding key_marks marked_keys
+  unfolding marks marked_keys
   keys_two a b h =
       cases (eqb a.0 b.0) (λ p. rw p (keys_one a (λ k l. h k l ∙ rw (← eqb-true a.0 b.0 p) (or_self (eqb a.0 k)))))
       (λ p. rw p (apart (λ e. eqb-false a.0 b.0 p (sym e))))
@@ -222,14 +274,14 @@ module _ (i : ℕ) (Q : ℕ → Set) where
 
       apart : b.0 ≢ a.0 → key_marks (i + 1) Q ≡ marked_key (marked_key (key_marks i Q) a) b
       apart d =
-          ap key_marks_of
+          ap as_keys
           (seen_two key_count i Q a.0 b.0 d
           (λ k l. h k l ∙ ap₂ (λ (x y : Bool). x || y) (same_number a.0 k) (same_number b.0 k))) ∙
-          marked_key_lem (saw key_count (seen key_count i Q) a.0) b ∙
-          ap (λ (m : KeyMarks). marked_key m b) (marked_key_lem (seen key_count i Q) a)
+          one_more (saw key_count (seen key_count i Q) a.0) b ∙
+          ap (λ (m : Marks Keys). marked_key m b) (one_more (seen key_count i Q) a)
 
 -- the keys that events made, with one more slot, which holds no event or holds one
-module _ (n : Net) (e : ℕ) (m : KeyMarks) (h : m ≡ key_marks e (made_at n)) (x : Slot) (is : x ≡ slot_at n e) where
+module _ (n : Net) (e : ℕ) (m : Marks Keys) (h : m ≡ key_marks e (made_at n)) (x : Slot) (is : x ≡ slot_at n e) where
   pub made_none : eqb x.kind 2 ≡ false → m ≡ key_marks (e + 1) (made_at n)
   made_none p = h ∙ sym (keys_none e (made_at n) (λ k l. rw (event_is n e x is p)))
 
@@ -239,54 +291,30 @@ module _ (n : Net) (e : ℕ) (m : KeyMarks) (h : m ≡ key_marks e (made_at n)) 
       sym (keys_two e (made_at n) (slot_at n e).first (slot_at n e).second (λ k l. rw (event_is n e x is p, lt-ltb k key_count l)))
 
 -- the tuples that events used whose deed is d, with one more slot
-module _ (d : ℕ) (ds : List ℕ) (n : Net) (e : ℕ) (m : KeyMarks) (h : m ≡ key_marks e (used_at d ds n)) where
+module _ (d : ℕ) (ds : List ℕ) (n : Net) (e : ℕ) (m : Marks Keys) (h : m ≡ key_marks e (used_at d ds n)) where
   pub used_none : eqb (deed_at ds e) d ≡ false → m ≡ key_marks (e + 1) (used_at d ds n)
-  used_none p = h ∙ sym (keys_none e (used_at d ds n) (λ k l. rw p))
+  used_none = named_none keys (λ s. s.0) (λ (k : Key). k.0) key_count word_back d ds (λ e. (slot_at n e).used.0) e m h
 
-  pub used_more : eqb (deed_at ds e) d ≡ true → (x : Slot) → x ≡ slot_at n e → marked_key m x.used ≡ key_marks (e + 1) (used_at d ds n)
-  used_more p x is =
-      (λ i. marked_key (h i) (is i).used) ∙
-      sym (keys_one e (used_at d ds n) (slot_at n e).used (λ k l. rw p))
+  pub used_more : eqb (deed_at ds e) d ≡ true → (t : Key) → t ≡ (slot_at n e).used → marked_key m t ≡ key_marks (e + 1) (used_at d ds n)
+  used_more p t is =
+      named_more keys (λ s. s.0) (λ (k : Key). k.0) key_count word_back d ds (λ e. (slot_at n e).used.0) e m h p t (ap (λ (k : Key). k.0) is)
 
 -- ---- marks of localities
 
-abbrev place_marks_of : Seen → PlaceMarks
-place_marks_of m = record { once = m.once; set = localities m.word }
+abbrev place_back : (w : ℕ) → (localities w).0 ≡ w
+place_back w = refl
 
-marked_place_lem : (m : Seen) (a : Locality) → place_marks_of (saw locality_count m a.0) ≡ marked_place (place_marks_of m) a
-unfolding marked_place
-marked_place_lem m a = cases (ltb a.0 locality_count) (λ p. rw p) (λ p. rw p)
+pub places_start : (Q : ℕ → Set) → place_marks 0 Q ≡ record { once = true; names = localities 0 }
+places_start = marks_start localities (λ s. s.0) (λ (l : Locality). l.0) locality_count place_back
 
 -- the localities that newlocs made, with one more slot
-module _ (ds : List ℕ) (n : Net) (e : ℕ) (m : PlaceMarks) (h : m ≡ place_marks e (place_at ds n)) where
+module _ (ds : List ℕ) (n : Net) (e : ℕ) (m : Marks Localities) (h : m ≡ place_marks e (place_at ds n)) where
   pub place_none : eqb (deed_at ds e) 4 ≡ false → m ≡ place_marks (e + 1) (place_at ds n)
-  unfolding place_marks
-  place_none p = h ∙ sym (ap place_marks_of (seen_none locality_count e (place_at ds n) (λ l _. rw p)))
+  place_none = named_none localities (λ s. s.0) (λ (l : Locality). l.0) locality_count place_back 4 ds (λ e. (slot_at n e).place.0) e m h
 
-  pub place_more : eqb (deed_at ds e) 4 ≡ true → (x : Slot) → x ≡ slot_at n e → marked_place m x.place ≡ place_marks (e + 1) (place_at ds n)
-  unfolding place_marks
-  place_more p x is =
-      (λ i. marked_place (h i) (is i).place) ∙
-      sym
-      (ap place_marks_of
-      (seen_one locality_count e (place_at ds n) (slot_at n e).place.0 (λ l _. rw p (same_number (slot_at n e).place.0 l))) ∙
-      marked_place_lem (seen locality_count e (place_at ds n)) (slot_at n e).place)
-
--- ---- no event yet
-
-no_numbers : (W : ℕ) (Q : ℕ → Set) → word_of W (gathered 0 Q) ≡ 0
-no_numbers W Q =
-    sym
-    (word_of_is W (gathered 0 Q) 0 (pow_pos W)
-    (λ k _. member_empty k ∙ sym (any_not 0 (λ e. Q e k) (λ x l. absurd (not-suc-le-zero l)))))
-
-pub keys_start : (Q : ℕ → Set) → key_marks 0 Q ≡ record { once = true; keys = keys 0 }
-unfolding key_marks distinct
-keys_start Q = λ t. record { once = true; keys = keys (no_numbers key_count Q t) }
-
-pub places_start : (Q : ℕ → Set) → place_marks 0 Q ≡ record { once = true; set = localities 0 }
-unfolding place_marks distinct
-places_start Q = λ t. record { once = true; set = localities (no_numbers locality_count Q t) }
+  pub place_more : eqb (deed_at ds e) 4 ≡ true → (l : Locality) → l ≡ (slot_at n e).place → marked_place m l ≡ place_marks (e + 1) (place_at ds n)
+  place_more p l is =
+      named_more localities (λ s. s.0) (λ (l : Locality). l.0) locality_count place_back 4 ds (λ e. (slot_at n e).place.0) e m h p l (ap (λ (k : Locality). k.0) is)
 
 -- ---- users of tuples
 
@@ -318,24 +346,20 @@ module _ (d : ℕ) (ds : List ℕ) (n : Net) where
     pub users_none : eqb (deed_at ds e) d ≡ false → us ≡ users_below (e + 1) d ds n
     users_none p = h ∙ same_users e (λ t l. rw p)
 
-    pub users_away : (x : Slot) → x ≡ slot_at n e → is_key x.used ≡ false → us ≡ users_below (e + 1) d ds n
-    users_away x is q =
+    pub users_away : (t : Key) → t ≡ (slot_at n e).used → is_key t ≡ false → us ≡ users_below (e + 1) d ds n
+    users_away t is q =
         let u = (slot_at n e).used.0 in
-        let far : ltb u key_count ≡ false = sym (ap (λ (y : Slot). is_key y.used) is) ∙ q in
+        let far : ltb u key_count ≡ false = sym (ap is_key is) ∙ q in
         h ∙ same_users e (λ t l. rw (ne_eqb u t (λ z. omega (arith, ltb-false u key_count far))) (and-false (eqb (deed_at ds e) d)))
 
-    pub users_more : eqb (deed_at ds e) d ≡ true → (x : Slot) → x ≡ slot_at n e → is_key x.used ≡ true → (more : Keys) → more ≡ keys (including (keys_at us x.used.0).0 e) → set us x.used.0 more ≡ users_below (e + 1) d ds n
-    users_more p x is q more given =
+    pub users_more : eqb (deed_at ds e) d ≡ true → (t : Key) → t ≡ (slot_at n e).used → is_key t ≡ true → (more : Keys) → more ≡ keys (including (keys_at us t.0).0 e) → set us t.0 more ≡ users_below (e + 1) d ds n
+    users_more p t is q more given =
         let u = (slot_at n e).used.0 in
-        let near : ltb u key_count ≡ true = sym (ap (λ (y : Slot). is_key y.used) is) ∙ q in
-        ap (set us x.used.0) given ∙ (λ i. set (h i) (is i).used.0 (keys (including (keys_at (h i) (is i).used.0).0 e))) ∙
+        let near : ltb u key_count ≡ true = sym (ap is_key is) ∙ q in
+        ap (set us t.0) given ∙ (λ i. set (h i) (is i).0 (keys (including (keys_at (h i) (is i).0).0 e))) ∙
         more_users e u (ltb-true u key_count near) (rw p (eq-eqb u u refl)) (λ t z. rw p (ne_eqb u t (λ y. z (sym y))))
 
 -- ---- who depends on whom
-
--- where a key stands is one of the places
-pub place_found : (k : Key) {i : ℕ} → i ≡ index_of k → i < key_count
-place_found k e = subst (λ (j : ℕ). j < key_count) (sym e) (index_below k)
 
 -- a row from the sets that the code looked up
 module _ (takers readers : List Keys) (k : Key) where

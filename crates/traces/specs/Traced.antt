@@ -35,7 +35,7 @@ use Rattle.products.specs.Body.{body_of}
 use Rattle.products.specs.Products.{kind_of}
 use Rattle.rules.specs.Instance.{rules_of, act, same_kind}
 use Rattle.rules.specs.View.{kind_as, past_is, view, view_slot, beyond}
-use Rattle.traces.specs.Traces.{deed_of, deeds_of, deed_at, is_event, events_of, made_at, used_at, place_at, key_marks, place_marks, keys_made, localities_made, tuples_taken, keys_at, users_at, users_below, users_of, after_key, after_read, row_of, row_at, rows_of}
+use Rattle.traces.specs.Traces.{deed_of, deeds_of, deed_at, is_event, events_of, made_at, used_at, place_at, marks, keys_made, localities_made, tuples_taken, keys_at, users_at, users_below, users_of, after_key, after_read, row_of, row_at, rows_of}
 
 -- ---- what a row says, over any rules
 
@@ -190,32 +190,32 @@ module _ (s : Script) (n : Images.Net) where
   events_in_lem k l = word_of_in key_count (is_event n) k l ∙ event_at k l
 
   pub keys_once : (keys_made n).once ≡ distinct key_count key_count (makes (view s n))
-  unfolding key_marks
+  unfolding marks
   keys_once = distinct_ext key_count key_count (made_at n) (makes (view s n)) (λ e k l _. made_at_lem e k l)
 
-  pub keys_in : (k : ℕ) → k < key_count → is_in (keys_made n).keys (key k) ≡ is_made (view s n) k
-  unfolding key_marks
+  pub keys_in : (k : ℕ) → k < key_count → is_in (keys_made n).names (key k) ≡ is_made (view s n) k
+  unfolding marks
   keys_in k l =
       word_of_in key_count (gathered key_count (made_at n)) k l ∙
       any_ext key_count (λ e. made_at n e k) (λ e. makes (view s n) e k) (λ e m. made_at_lem e k m)
 
   pub localities_once : (localities_made (deeds_of s n) n).once ≡ distinct locality_count key_count (makes_locality (view s n))
-  unfolding place_marks
+  unfolding marks
   localities_once =
       distinct_ext locality_count key_count (place_at (deeds_of s n) n) (makes_locality (view s n)) (λ e m l _. place_at_lem e m l)
 
-  pub localities_in : (m : ℕ) → m < locality_count → holds (localities_made (deeds_of s n) n).set (locality m) ≡ is_made_locality (view s n) m
-  unfolding place_marks
+  pub localities_in : (m : ℕ) → m < locality_count → holds (localities_made (deeds_of s n) n).names (locality m) ≡ is_made_locality (view s n) m
+  unfolding marks
   localities_in m l =
       word_of_in locality_count (gathered key_count (place_at (deeds_of s n) n)) m l ∙
       any_ext key_count (λ e. place_at (deeds_of s n) n e m) (λ e. makes_locality (view s n) e m) (λ e k. place_at_lem e m k)
 
   pub taken_once : (tuples_taken (deeds_of s n) n).once ≡ distinct key_count key_count (takes (view s n))
-  unfolding key_marks
+  unfolding marks
   taken_once = distinct_ext key_count key_count (used_at 2 (deeds_of s n) n) (takes (view s n)) (λ e t l _. taken_at e t l)
 
-  pub taken_in : (t : ℕ) → t < key_count → is_in (tuples_taken (deeds_of s n) n).keys (key t) ≡ any key_count (λ f. takes (view s n) f t)
-  unfolding key_marks
+  pub taken_in : (t : ℕ) → t < key_count → is_in (tuples_taken (deeds_of s n) n).names (key t) ≡ any key_count (λ f. takes (view s n) f t)
+  unfolding marks
   taken_in t l =
       word_of_in key_count (gathered key_count (used_at 2 (deeds_of s n) n)) t l ∙
       any_ext key_count (λ f. used_at 2 (deeds_of s n) n f t) (λ f. takes (view s n) f t) (λ f m. taken_at f t m)

@@ -1,27 +1,29 @@
 -- What the events of a net made and used, as the code finds it. Nothing here must be believed: `Traced` proves these the theory's.
--- In order: what each event did (`deed_of`); events as a set (`events_of`); rows of what an event made or used (`made_at`, `place_at`, `used_at`);
--- a number more that events speak of (`marked_key`, `marked_keys`, `marked_place`) and all of them (`keys_made`, `localities_made`, `tuples_taken`);
--- users of tuples (`users_of`); who depends on an event (`row_of`, `rows_of`).
+-- In order: what each event did (`deed_of`); events as a set (`events_of`); what an event made or used (`made_at`), of events that speak of one name
+-- each the name (`Names`, `named_at`, `used_at`, `place_at`); a name more that events speak of, in any set of names (`marked`, `marked_key`,
+-- `marked_keys`), and all of them (`marks`, `keys_made`, `localities_made`, `tuples_taken`); users of tuples (`users_of`); who depends on an event
+-- (`row_of`, `rows_of`).
 -- Assumes nothing.
-use Rattle.std.specs.Prelude.{ℕ, ◌&&◌, ◌||◌, not, List, eqb, ltb, get_or}
+use Rattle.std.specs.Prelude.{ℕ, ◌≡◌, ◌<◌, ◌&&◌, ◌||◌, not, List, eqb, ltb, get_or}
 use Rattle.laws.specs.Choice.{pick}
 use Rattle.laws.specs.Lists.{tab}
 use Rattle.order.specs.KeySets.{Set}
 use Rattle.order.specs.Distinct.{gathered, distinct}
 use Rattle.order.specs.Words.{word_of}
-use Rattle.names.specs.Names.{key_count, locality_count, is_key, is_locality}
-use Rattle.names.specs.Localities.{localities, holds, joined}
+use Rattle.laws.specs.Sets as S
+use Rattle.names.specs.Names.{key_count, locality_count, is_key}
+use Rattle.names.specs.Localities.{localities}
 use Rattle.names.specs.KeySets.{keys, is_in, including, either}
 use Rattle.names.specs.declared.Key.{Key}
 use Rattle.names.specs.declared.Keys.{Keys}
+use Rattle.names.specs.declared.Localities.{Localities}
 use Rattle.names.specs.declared.Locality.{Locality}
 use Rattle.images.specs.Script.{action_at}
 use Rattle.images.specs.Net.{slot_at}
 use Rattle.images.specs.declared.Script.{Script}
 use Rattle.images.specs.declared.Slot.{Slot}
 use Rattle.images.specs.declared.Net.{Net}
-use Rattle.traces.specs.declared.KeyMarks.{KeyMarks}
-use Rattle.traces.specs.declared.PlaceMarks.{PlaceMarks}
+use Rattle.traces.specs.declared.Marks.{Marks}
 
 -- ---- what each event did
 
@@ -47,39 +49,57 @@ events_of n = keys (word_of key_count (is_event n))
 abbrev pub made_at : Net → ℕ → Set
 made_at n e k = is_event n e && (ltb k key_count && (eqb (slot_at n e).first.0 k || eqb (slot_at n e).second.0 k))
 
+-- what is called at each event gives the name that it speaks of
+abbrev pub Names : {N : Type 0} → (ℕ → N → Type 0) → (N → ℕ) → (ℕ → ℕ) → Type 0
+Names gives number_of name = (e : ℕ) (a : _) → e < key_count → gives e a → number_of a ≡ name e
+
+-- e, whose deed is d, speaks of the name a, where each event speaks of one
+abbrev pub named_at : ℕ → List ℕ → (ℕ → ℕ) → ℕ → Set
+named_at d ds name e a = eqb (deed_at ds e) d && eqb (name e) a
+
 -- e, whose deed is d, used the tuple t
 abbrev pub used_at : ℕ → List ℕ → Net → ℕ → Set
-used_at d ds n e t = eqb (deed_at ds e) d && eqb (slot_at n e).used.0 t
+used_at d ds n = named_at d ds (λ e. (slot_at n e).used.0)
 
 -- e is a newloc that made the locality l
 abbrev pub place_at : List ℕ → Net → ℕ → Set
-place_at ds n e l = eqb (deed_at ds e) 4 && eqb (slot_at n e).place.0 l
+place_at ds n = named_at 4 ds (λ e. (slot_at n e).place.0)
 
 -- ---- made once, taken once
 
-unfoldable pub marked_key : KeyMarks → Key → KeyMarks
-marked_key m k = pick (is_key k) (record { once = m.once && not (is_in m.keys k); keys = including m.keys k }) m
+-- over any set of names: a set for each word and a word for each set, a number for each name, and how many names there are
+unfoldable pub marked : {A N : Type 0} → (ℕ → A) → (A → ℕ) → (N → ℕ) → ℕ → Marks A → N → Marks A
+marked set_of word_of number_of limit m n =
+    pick (ltb (number_of n) limit)
+    (record { once = m.once && not (S.member (word_of m.names) (number_of n)); names = set_of (S.including (word_of m.names) (number_of n)) })
+    m
 
-unfoldable pub marked_keys : KeyMarks → Key → Key → KeyMarks
+abbrev pub marked_key : Marks Keys → Key → Marks Keys
+marked_key = marked keys (λ s. s.0) (λ k. k.0) key_count
+
+abbrev pub marked_place : Marks Localities → Locality → Marks Localities
+marked_place = marked localities (λ s. s.0) (λ l. l.0) locality_count
+
+unfoldable pub marked_keys : Marks Keys → Key → Key → Marks Keys
 marked_keys m a b = pick (eqb a.0 b.0) (marked_key m a) (marked_key (marked_key m a) b)
 
-unfoldable pub marked_place : PlaceMarks → Locality → PlaceMarks
-marked_place m l = pick (is_locality l) (record { once = m.once && not (holds m.set l); set = joined m.set l }) m
+-- the first i rows together, and whether no two share a name
+unfoldable pub marks : {A : Type 0} → (ℕ → A) → ℕ → ℕ → (ℕ → Set) → Marks A
+marks set_of limit i Q = record { once = distinct limit i Q; names = set_of (word_of limit (gathered i Q)) }
 
--- the first i rows together, and whether no two share a key
-unfoldable pub key_marks : ℕ → (ℕ → Set) → KeyMarks
-key_marks i Q = record { once = distinct key_count i Q; keys = keys (word_of key_count (gathered i Q)) }
+abbrev pub key_marks : ℕ → (ℕ → Set) → Marks Keys
+key_marks = marks keys key_count
 
-unfoldable pub place_marks : ℕ → (ℕ → Set) → PlaceMarks
-place_marks i Q = record { once = distinct locality_count i Q; set = localities (word_of locality_count (gathered i Q)) }
+abbrev pub place_marks : ℕ → (ℕ → Set) → Marks Localities
+place_marks = marks localities locality_count
 
-abbrev pub keys_made : Net → KeyMarks
+abbrev pub keys_made : Net → Marks Keys
 keys_made n = key_marks key_count (made_at n)
 
-abbrev pub localities_made : List ℕ → Net → PlaceMarks
+abbrev pub localities_made : List ℕ → Net → Marks Localities
 localities_made ds n = place_marks key_count (place_at ds n)
 
-abbrev pub tuples_taken : List ℕ → Net → KeyMarks
+abbrev pub tuples_taken : List ℕ → Net → Marks Keys
 tuples_taken ds n = key_marks key_count (used_at 2 ds n)
 
 -- ---- who depends on whom

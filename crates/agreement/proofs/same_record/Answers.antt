@@ -1,24 +1,36 @@
-use mathlib.Core.Path.{◌∙◌, sym}
-use borrow.Author.Tests.{eq-eqb, ne_eqb}
-use Rattle.agreement.specs.Agreement.{same_record}
+use Rattle.std.proofs.Common.{◌≡◌, ◌∙◌, arith}
+use Rattle.std.proofs.lemmas.Grind.{common_steps}
+use Rattle.images.proofs.Owned.{shaped_own_slot}
+use Rattle.agreement.specs.Agreement.{same_record, same_data, same_refs}
+use Rattle.agreement.proofs.Alike.{data_alike, refs_alike}
 use Rattle.agreement.proofs.same_record.Goals as goal
+use Rattle.agreement.proofs.same_record.Goals.{then-x-y, else-x-y}
 
-pub returns-then-x-y : goal.returns-then-x-y
+pub returns-then-eq-3 : goal.returns-then-eq-3
 unfolding same_record
-returns-then-x-y c = rw (ne_eqb _ _ c.if-x-y.true)
+returns-then-eq-3 c =
+    let x = c.args.x in
+    let y = c.args.y in
+    let in_x = shaped_own_slot x _ c.well_formed.0 in
+    let in_y = shaped_own_slot y _ c.well_formed.1.0 in
+    let refs : c.eq-then-eq-3.result ≡ same_refs x.refs y.refs = c.eq-then-eq-3.ensures ∙ refs_alike _ _ in_x.refs in_y.refs in
+    elim c.if-x-y.branch [
+      | then-x-y w ↦
+          let contents : w.eq-then-x-y.result ≡ same_data x.contents y.contents = w.eq-then-x-y.ensures ∙ data_alike _ _ in_x.contents in_y.contents in
+          grind (arith, common_steps)
+      | else-x-y w ↦ cc
+    ]
 
-pub returns-then-x-y-2 : goal.returns-then-x-y-2
+pub returns-else-eq-3 : goal.returns-else-eq-3
 unfolding same_record
-returns-then-x-y-2 c = rw (eq-eqb _ _ c.if-x-y.false, ne_eqb _ _ c.if-x-y-2.true)
-
-pub returns-then-x-y-3 : goal.returns-then-x-y-3
-unfolding same_record
-returns-then-x-y-3 c = rw (eq-eqb _ _ c.if-x-y.false, eq-eqb _ _ c.if-x-y-2.false, ne_eqb _ _ c.if-x-y-3.true)
-
-pub returns-then-not-same_data : goal.returns-then-not-same_data
-unfolding same_record
-returns-then-not-same_data c = rw (eq-eqb _ _ c.if-x-y.false, eq-eqb _ _ c.if-x-y-2.false, eq-eqb _ _ c.if-x-y-3.false, sym c.same_data.ensures ∙ c.if-not-same_data.true)
-
-pub returns : goal.returns
-unfolding same_record
-returns c = rw (eq-eqb _ _ c.if-x-y.false, eq-eqb _ _ c.if-x-y-2.false, eq-eqb _ _ c.if-x-y-3.false, sym c.same_data.ensures ∙ c.if-not-same_data.false, c.same_refs.ensures)
+returns-else-eq-3 c =
+    let x = c.args.x in
+    let y = c.args.y in
+    let in_x = shaped_own_slot x _ c.well_formed.0 in
+    let in_y = shaped_own_slot y _ c.well_formed.1.0 in
+    elim c.if-x-y.branch [
+      | then-x-y w ↦
+          let contents : w.eq-then-x-y.result ≡ same_data x.contents y.contents = w.eq-then-x-y.ensures ∙ data_alike _ _ in_x.contents in_y.contents in
+          grind (arith, common_steps)
+      | else-x-y w ↦ grind (arith, common_steps)
+    ]

@@ -1,12 +1,7 @@
 use mathlib.Core.Path.{refl}
-use native.Mathlib.Omega.{arith}
-use lib.Count.{leading_le}
 use Rattle.cycles.specs.Highest.{some_zeros, highest_bit}
 use Rattle.std.proofs.Common.{rules}
 use Rattle.cycles.proofs.highest.Goals as goal
-
-pub overflow_cast-above : goal.overflow_cast-above
-overflow_cast-above c = record { fits = omega (arith, leading_le 64 c.args.set.0) }
 
 pub overflow_sub-result : goal.overflow_sub-result
 overflow_sub-result c = some_zeros c.args.set (search rules) c.requires

@@ -1,4 +1,3 @@
-use Prim.Native.Nat.{◌-◌, ◌≤◌}
 use Rattle.cycles.specs.Laws.{Passing}
 use Rattle.cycles.specs.Laws.{Kept}
 use Rattle.cycles.proofs.peels_away.Given as goal
@@ -10,7 +9,4 @@ abbrev pub decreases-loop-to_come : goal.decreases-loop-to_come
 decreases-loop-to_come l = l.to_come.0
 
 abbrev pub invariant-loop-turn : goal.invariant-loop-turn
-invariant-loop-turn l = (l.turn ≤ 64) × Kept l.rows l.initial.left l.turn l.left
-
-abbrev pub decreases-loop-turn : goal.decreases-loop-turn
-decreases-loop-turn l = 64 - l.turn
+invariant-loop-turn l = Kept l.rows l.initial.left l._turn l.left

@@ -1,24 +1,14 @@
-use mathlib.Core.Path.{sym, ◌∙◌}
-use native.Mathlib.Omega.{arith}
-use borrow.Author.Count.{below_more}
-use Rattle.finder.specs.Helpers.{absent_first, absent_not, absent_at, absent_end}
-use Rattle.std.proofs.Common.{rules}
+use Rattle.std.proofs.Common.{◌≡◌, ap, ◌∙◌, true, false, not, rules, tests}
+use Rattle.std.proofs.lemmas.Iterator.{first_from_Range}
+use Rattle.names.specs.Names.{locality}
+use Rattle.names.specs.Localities.{holds}
+use Rattle.finder.specs.Helpers.{absent_given}
 use Rattle.finder.proofs.absent_locality.Goals as goal
-
-pub loop-l-init : goal.loop-l-init
-loop-l-init c = (search rules, search rules, absent_first _)
-
-pub returns-then-not-has : goal.returns-then-not-has
-returns-then-not-has c =
-    let w = c.loop-l in
-    absent_at _ w.l w.invariant.0 (omega (arith, c.loop-l-test.true)) w.invariant.2 (sym c.has.ensures ∙ c.if-not-has.true)
-
-pub loop-l-preserved : goal.loop-l-preserved
-loop-l-preserved c =
-    let w = c.loop-l in
-    (search rules, search rules, below_more _ w.l w.invariant.2 (absent_not _ w.l (sym c.has.ensures ∙ c.if-not-has.false)))
 
 pub returns : goal.returns
 returns c =
-    let w = c.loop-l in
-    absent_end _ (λ j h. w.invariant.2 j (omega (arith, h)))
+    let p = c.args.present in
+    let h =
+    first_from_Range _ _ _ _ (λ l. not (holds p (locality l)) ≡ true) (λ l. not (holds p (locality l)) ≡ false) c.find-absent.ensures.ran
+    (λ x q k. search (rules, tests)) (λ x q k. (search rules, search (rules, tests))) in
+    ap locality c.unwrap_or.ensures ∙ absent_given p _ h

@@ -1,25 +1,26 @@
-use mathlib.Core.Path.{◌∙◌}
-use native.Mathlib.Omega.{arith}
-use borrow.Author.Count.{below_none, below_more}
-use Rattle.images.specs.Read.{action_of, net_of}
-use Rattle.finder.specs.Searched.{meets_in, seen, first_met, none_met}
-use Rattle.std.proofs.Common.{rules}
+use Rattle.std.proofs.Common.{◌≡◌, ◌∙◌, true, false, rules, tests}
+use Rattle.std.proofs.lemmas.Iterator.{first_from_Range}
+use Rattle.images.specs.Head.{part_at}
+use Rattle.images.specs.Read.{action_of, slot_of, net_of}
+use Rattle.finder.specs.Searched.{meets_at, meets_in, turns, first_met, none_met}
 use Rattle.finder.proofs.search.Goals as goal
 
-pub loop-t-init : goal.loop-t-init
-loop-t-init c = (search rules, below_none _)
-
-pub slice_bounds-meets_at-end : goal.slice_bounds-meets_at-end
-slice_bounds-meets_at-end c = omega (arith, c.loop-t-test.true, c.requires.1)
-
-pub returns-then-meets_at : goal.returns-then-meets_at
-returns-then-meets_at c = first_met (meets_in (action_of c.args.node.now) c.args.vars c.args.at (net_of c.args.net.now)) c.loop-t.t c.loop-t-test.true c.loop-t.invariant.1 (seen (action_of c.args.node.now) c.args.vars c.args.at c.args.net.now c.loop-t.t c.loop-t-test.true c.meets_at.ensures c.if-meets_at.true)
-
-pub loop-t-smaller : goal.loop-t-smaller
-loop-t-smaller c = omega (arith, c.loop-t-test.true)
-
-pub loop-t-preserved : goal.loop-t-preserved
-loop-t-preserved c = (omega (arith, c.loop-t-test.true), below_more _ c.loop-t.t c.loop-t.invariant.1 (seen (action_of c.args.node.now) c.args.vars c.args.at c.args.net.now c.loop-t.t c.loop-t-test.true c.meets_at.ensures c.if-meets_at.false))
-
 pub returns : goal.returns
-returns c = c.refused.ensures ∙ none_met (meets_in (action_of c.args.node.now) c.args.vars c.args.at (net_of c.args.net.now)) (λ j h. c.loop-t.invariant.1 j (omega (arith, h, c.loop-t-test.false)))
+returns c =
+    let a = action_of c.args.node.now in
+    let b = c.args.net.now in
+    let h =
+    first_from_Range _ _ _ _ (λ j. meets_at a c.args.vars c.args.at (slot_of (part_at 56 b j)) ≡ true)
+    (λ j. meets_at a c.args.vars c.args.at (slot_of (part_at 56 b j)) ≡ false) c.find-met.ensures.ran
+    (λ x q k. search (rules, tests)) (λ x q k. (search rules, search (rules, tests))) in
+    first_met (meets_in a c.args.vars c.args.at (net_of b)) c.in-Some.is (turns a c.args.vars c.args.at b _ h)
+
+pub returns-in_default : goal.returns-in_default
+returns-in_default c =
+    let a = action_of c.args.node.now in
+    let b = c.args.net.now in
+    let h =
+    first_from_Range _ _ _ _ (λ j. meets_at a c.args.vars c.args.at (slot_of (part_at 56 b j)) ≡ true)
+    (λ j. meets_at a c.args.vars c.args.at (slot_of (part_at 56 b j)) ≡ false) c.find-met.ensures.ran
+    (λ x q k. search (rules, tests)) (λ x q k. (search rules, search (rules, tests))) in
+    c.refused.ensures ∙ none_met (meets_in a c.args.vars c.args.at (net_of b)) c.in_default.is (turns a c.args.vars c.args.at b _ h)

@@ -1,10 +1,9 @@
-use mathlib.Core.Path.{sym, ◌∙◌}
-use Rattle.step.specs.Tests.{holds_true, fails_false}
-use Rattle.machine.specs.Called.{call_refused, answer_good}
+use Rattle.machine.specs.Called.{call_refused}
+use Rattle.machine.specs.OnBytes.{net_size}
 use Rattle.machine.proofs.call.Goals as goal
 
-pub returns-in_default : goal.returns-in_default
-returns-in_default c = call_refused c.args.script.now c.args.net.now _ c.image_answer-answer.ensures c.args.request.now (fails_false _ (sym c.all_hold.ensures ∙ c.in_default.is)) _ c.refused.ensures
+pub returns-in-Err : goal.returns-in-Err
+returns-in-Err c = call_refused c.args.script.now c.args.net.now _ c.in-Err.ensures.0 c.args.request.now c.in-Err.ensures.1 _ c.refused.ensures
 
-pub call_on-requires : goal.call_on-requires
-call_on-requires c = answer_good c.args.script.now c.args.net.now _ c.image_answer-answer.ensures (holds_true _ (sym c.all_hold.ensures ∙ c.in-Holds.is))
+pub returns-in_default : goal.returns-in_default
+returns-in_default c = absurd (c.in_default.ensures.cases (net_size c.args.script.now c.args.net.now c.in-Ok.ensures.0))

@@ -1,37 +1,29 @@
-use mathlib.Core.Path.{◌≡◌, ◌∙◌, sym}
-use native.Mathlib.Omega.{arith}
-use borrow.Author.Count.{below_none, below_more}
-use borrow.Author.Tests.{eq-eqb, ne_eqb}
+use Rattle.std.proofs.Common.{◌∙◌, sym, get_or, arith}
+use borrow.Author.Tests.{eq-eqb, ne_eqb, lt-ltb}
 use Rattle.laws.specs.Checks.{all_of, all_not}
-use Rattle.matching.specs.Match.{meets, match_of, a_match, no_match}
-use Rattle.std.proofs.Common.{rules}
+use Rattle.images.specs.Script.{field_at}
+use Rattle.images.specs.Net.{datum0}
+use Rattle.matching.specs.Match.{place_meets, meets, a_match, no_match}
 use Rattle.matching.proofs.match_tuple.Goals as goal
 
 pub returns-then-a-t : goal.returns-then-a-t
-unfolding match_of meets
-returns-then-a-t c =
-    no_match c.args.vars c.action_of-a.result c.slot_of-t.result (rw (ne_eqb _ _ c.if-a-t.true)) ∙
-    (λ i. match_of c.args.vars (c.action_of-a.ensures i) (c.slot_of-t.ensures i))
-
-pub loop-j-init : goal.loop-j-init
-loop-j-init c = (search rules, below_none _)
-
-pub returns-then-not-place_meets : goal.returns-then-not-place_meets
 unfolding meets
-returns-then-not-place_meets c =
-    no_match c.args.vars c.action_of-a.result c.slot_of-t.result
-    (rw (
-      eq-eqb _ _ c.if-a-t.false,
-      all_not 4 _ c.loop-j.j c.loop-j-test.true (sym c.place_meets.ensures ∙ c.if-not-place_meets.true),
-    )) ∙
-    (λ i. match_of c.args.vars (c.action_of-a.ensures i) (c.slot_of-t.ensures i))
+returns-then-a-t c =
+    rw (← c.action_of-a.ensures, ← c.slot_of-t.ensures) (no_match _ _ _ (rw (ne_eqb _ _ c.if-a-t.true)))
 
-pub loop-j-preserved : goal.loop-j-preserved
-loop-j-preserved c = (search rules, below_more _ _ c.loop-j.invariant.1 (sym c.place_meets.ensures ∙ c.if-not-place_meets.false))
+pub returns-then-not-field_meets : goal.returns-then-not-field_meets
+unfolding meets place_meets
+returns-then-not-field_meets c =
+    let a = c.action_of-a.result in
+    let t = c.slot_of-t.result in
+    rw (← c.action_of-a.ensures, ← c.slot_of-t.ensures)
+    (no_match _ a t
+    (rw (eq-eqb _ _ c.if-a-t.false)
+    (all_not 4 (λ j. place_meets c.args.vars a.count j (field_at a j) (get_or t.contents j datum0)) c.loop-j.j c.loop-j-test.true
+    (rw (lt-ltb _ _ c.if-j-a.true) (sym c.field_meets.ensures ∙ c.if-not-field_meets.true)))))
 
 pub returns : goal.returns
 unfolding meets
 returns c =
-    let e : c.loop-j.j ≡ 4 = omega arith in
-    a_match c.args.vars c.action_of-a.result c.slot_of-t.result (rw (eq-eqb _ _ c.if-a-t.false) (all_of 4 _ (rw e at c.loop-j.invariant.1))) ∙
-    (λ i. match_of c.args.vars (c.action_of-a.ensures i) (c.slot_of-t.ensures i))
+    rw (← c.action_of-a.ensures, ← c.slot_of-t.ensures)
+    (a_match _ _ _ (rw (eq-eqb _ _ c.if-a-t.false) (all_of 4 _ (λ i h. c.loop-j.invariant i (omega arith)))))

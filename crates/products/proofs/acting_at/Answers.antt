@@ -1,11 +1,11 @@
-use mathlib.Core.Path.{◌∙◌, sym}
+use mathlib.Core.Path.{sym}
 use Rattle.products.specs.Acting.{acting_at}
 use Rattle.products.proofs.acting_at.Goals as goal
 
-pub returns-then-not-has_target : goal.returns-then-not-has_target
+pub returns-then-has_target : goal.returns-then-has_target
 unfolding acting_at
-returns-then-not-has_target c = rw (sym c.has_target.ensures ∙ c.if-not-has_target.true)
+returns-then-has_target c = rw (sym c.if-has_target.ensures, c.find_target.ensures)
 
-pub returns : goal.returns
+pub returns-else-has_target : goal.returns-else-has_target
 unfolding acting_at
-returns c = rw (sym c.has_target.ensures ∙ c.if-not-has_target.false, c.find_target.ensures)
+returns-else-has_target c = rw (sym c.if-has_target.ensures)

@@ -2,10 +2,10 @@ use borrow.Author.Tests.{lt-ltb, le-ltb}
 use Rattle.products.specs.Products.{references_after}
 use Rattle.products.proofs.references_after.Goals as goal
 
-pub returns-then-i-ge-COUNT : goal.returns-then-i-ge-COUNT
+pub returns-then-i-lt-COUNT : goal.returns-then-i-lt-COUNT
 unfolding references_after
-returns-then-i-ge-COUNT c = rw (le-ltb _ _ c.if-i-ge-COUNT.true)
+returns-then-i-lt-COUNT c = rw (lt-ltb _ _ c.if-i-lt-COUNT.true)
 
-pub returns : goal.returns
+pub returns-else-i-lt-COUNT : goal.returns-else-i-lt-COUNT
 unfolding references_after
-returns c = rw (lt-ltb _ _ c.if-i-ge-COUNT.false)
+returns-else-i-lt-COUNT c = rw (le-ltb _ _ c.if-i-lt-COUNT.false)

@@ -1,19 +1,15 @@
-use mathlib.Core.Path.{◌∙◌, sym}
-use borrow.Author.Tests.{ltb-true}
+use mathlib.Core.Path.{sym}
 use Rattle.products.specs.Products.{target_there}
 use Rattle.products.proofs.target_there.Goals as goal
 
 pub returns-then-not-has_target : goal.returns-then-not-has_target
 unfolding target_there
-returns-then-not-has_target c = rw (sym c.has_target.ensures ∙ c.if-not-has_target.true)
+returns-then-not-has_target c = rw (c.has_target.ensures, sym c.if-not-has_target.ensures)
 
-pub returns-then-not-is_locality : goal.returns-then-not-is_locality
+pub returns-then-is_name : goal.returns-then-is_name
 unfolding target_there
-returns-then-not-is_locality c = rw (sym c.has_target.ensures ∙ c.if-not-has_target.false, sym c.is_locality.ensures ∙ c.if-not-is_locality.true)
+returns-then-is_name c = rw (sym c.if-not-has_target.ensures, sym c.if-is_name.ensures, c.has.ensures)
 
-pub has-requires : goal.has-requires
-has-requires c = ltb-true _ 32 (sym c.is_locality.ensures ∙ c.if-not-is_locality.false)
-
-pub returns : goal.returns
+pub returns-else-is_name : goal.returns-else-is_name
 unfolding target_there
-returns c = rw (sym c.has_target.ensures ∙ c.if-not-has_target.false, sym c.is_locality.ensures ∙ c.if-not-is_locality.false, c.has.ensures)
+returns-else-is_name c = rw (sym c.if-not-has_target.ensures, c.is_name.ensures, sym c.if-is_name.ensures)

@@ -1,42 +1,50 @@
-use Prim.Native.Nat.{◌/◌}
-use mathlib.Core.Path.{◌≡◌, refl, ap, ◌∙◌}
-use native.Mathlib.Omega.{arith}
-use lib.ListN.{length}
+use Rattle.std.proofs.Common.{◌≡◌, ℕ, ◌*◌, ◌/◌, ◌<◌, List, [], length, get_or, take, drop, ap, ◌∙◌, arith}
+use Rattle.std.specs.Simd.{first_chunks}
+use Rattle.laws.proofs.Chunks.{chunk_at}
 use Rattle.machine.specs.Bytes.{good_held, held_images}
-use Rattle.rewind.specs.Run.{answered, reply_few, last_held, one_more, run_first, run_next}
-use Rattle.std.proofs.Common.{rules}
+use Rattle.rewind.specs.Run.{answered, reply_few, last_held, request_at, one_more, run_of, run_first, run_next}
 use Rattle.rewind.proofs.answer_chunk.Goals as goal
 
-pub loop-k-init : goal.loop-k-init
-loop-k-init c = (search rules, search rules, refl, good_held c.args.script.now c.args.net.now c.requires.good_images (λ i. (c.type_inv.script i).fits) (λ i. (c.type_inv.net i).fits), run_first c.args.script.now c.args.net.now c.args.requests.now c.args.out.now)
+-- the chunk that the loop is at is the request there
+request_here : (b : List ℕ) (parts : List (List ℕ)) (k : ℕ) → parts ≡ first_chunks 6 (length b / 6) b → k < length b / 6 → get_or parts k [] ≡ request_at b k
+request_here b parts k e l =
+    let m : 6 * k ≡ k * 6 = omega arith in
+    ap (λ (ps : List (List ℕ)). get_or ps k []) e ∙ chunk_at 6 (length b / 6) k b l ∙ ap (λ (n : ℕ). take 6 (drop n b)) m
 
-pub call_on-t-requires : goal.call_on-t-requires
-call_on-t-requires c = held_images c.args.script.now c.loop-k.net c.loop-k.invariant.3
+pub loop-request-init : goal.loop-request-init
+loop-request-init c =
+    let room : length c.clear.new.self.items ≡ 0 = ap length c.clear.ensures in
+    record {
+      room = omega (arith, room);
+      held = good_held c.args.script.now c.args.net.now c.requires.good_images c.fits-script c.fits-net;
+      run = ap (λ xs. run_of xs c.args.net.now) c.clear.ensures ∙ run_first c.args.script.now c.args.net.now c.args.requests.now;
+    }
 
-pub put_line-end-requires : goal.put_line-end-requires
-put_line-end-requires c = (reply_few c.args.script.now c.loop-k.net _ c.loop-k.invariant.3 _ c.call_on-t.ensures.0, omega (arith, c.requires.room, c.loop-k.invariant.1, c.loop-k.invariant.2, c.loop-k-test.true))
+pub call_on-requires : goal.call_on-requires
+call_on-requires c = held_images c.args.script.now c.loop-request.net c.loop-request.invariant.held
 
-pub overflow_add-k : goal.overflow_add-k
-overflow_add-k c = omega (arith, c.loop-k-test.true)
+pub put_line-requires : goal.put_line-requires
+put_line-requires c = (
+  reply_few c.args.script.now c.loop-request.net _ c.loop-request.invariant.held _ c.call_on.ensures.0,
+  omega (arith, c.requires.room, c.loop-request.invariant.room, c.loop-request-test.true, c.as_chunks.ensures.front_len),
+)
 
-pub loop-k-smaller : goal.loop-k-smaller
-loop-k-smaller c = omega (arith, c.loop-k-test.true)
-
-pub loop-k-preserved : goal.loop-k-preserved
-loop-k-preserved c =
-    let ran = one_more c.args.script.now c.loop-k.net _ c.loop-k.out _ _ _ _ _ c.call_on-t.ensures.0 c.call_on-t.ensures.1 c.put_line-end.ensures in (
-      omega (arith, c.loop-k-test.true),
-      omega (arith, c.loop-k.invariant.1, ran.1),
-      c.put_line-end.ensures.kept ∙ c.loop-k.invariant.2,
-      last_held c.args.script.now c.loop-k.net _ c.loop-k.invariant.3 _ c.call_on-t.ensures.1,
-      run_next c.args.script.now c.args.net.now c.args.requests.now c.loop-k.k _ _ c.loop-k.invariant.4 ran.0,
-    )
+pub loop-request-preserved : goal.loop-request-preserved
+loop-request-preserved c =
+    let ran = one_more c.args.script.now c.loop-request.net _ _ _ _ _ c.call_on.ensures.0 c.call_on.ensures.1 c.put_line.ensures in
+    let l : c.loop-request.request-index < length c.args.requests.now / 6 = omega (arith, c.loop-request-test.true, c.as_chunks.ensures.front_len) in
+    let here = request_here c.args.requests.now _ c.loop-request.request-index c.as_chunks.ensures.front l in
+    record {
+      room = omega (arith, c.loop-request.invariant.room, ran.1);
+      held = last_held c.args.script.now c.loop-request.net _ c.loop-request.invariant.held _ c.call_on.ensures.1;
+      run = run_next c.args.script.now c.args.net.now c.args.requests.now c.loop-request.request-index _ _ _ here c.loop-request.invariant.run ran.0;
+    }
 
 pub returns : goal.returns
 returns c =
-    let e : c.loop-k.k ≡ length c.args.requests.now / 6 = omega (arith, c.loop-k.invariant.0, c.loop-k-test.false) in
+    let e : c.loop-request.request-index ≡ length c.args.requests.now / 6 =
+    omega (arith, c.loop-request.auto.request-index-end, c.loop-request-test.false, c.as_chunks.ensures.front_len) in
     record {
-      run = c.loop-k.invariant.4 ∙ ap (answered c.args.script.now c.args.net.now c.args.requests.now) e;
-      within = omega (arith, c.requires.room, c.loop-k.invariant.0, c.loop-k.invariant.1, c.loop-k.invariant.2);
-      good_images = held_images c.args.script.now c.loop-k.net c.loop-k.invariant.3;
+      run = c.loop-request.invariant.run ∙ ap (answered c.args.script.now c.args.net.now c.args.requests.now) e;
+      good_images = held_images c.args.script.now c.loop-request.net c.loop-request.invariant.held;
     }

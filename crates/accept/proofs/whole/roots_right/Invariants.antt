@@ -1,6 +1,4 @@
-use mathlib.Core.Path.{◌≡◌}
-use mathlib.Core.Bool.{true}
-use Prim.Native.Nat.{ℕ, ◌-◌, ◌<◌, ◌≤◌}
+use Rattle.std.proofs.Common.{◌≡◌, ℕ, ◌<◌, true}
 use Rattle.names.specs.Names.{key}
 use Rattle.names.specs.KeySets.{is_in}
 use Rattle.images.specs.Net.{slot_at}
@@ -9,7 +7,4 @@ use Rattle.accept.specs.Whole.{root_right}
 use Rattle.accept.proofs.whole.roots_right.Given as goal
 
 abbrev pub invariant-loop-k : goal.invariant-loop-k
-invariant-loop-k l = (l.k ≤ 64) × ((i : ℕ) → i < l.k → root_right (net_of l.net).present (is_in l.made (key i)) (slot_at (net_of l.net) i) ≡ true)
-
-abbrev pub decreases-loop-k : goal.decreases-loop-k
-decreases-loop-k l = 64 - l.k
+invariant-loop-k l = (i : ℕ) → i < l.k → root_right (net_of l.net).present (is_in l.made (key i)) (slot_at (net_of l.net) i) ≡ true

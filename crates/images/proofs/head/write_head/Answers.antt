@@ -8,4 +8,4 @@ pub returns : goal.returns
 unfolding head_bytes bytes_of
 returns c =
     put_four 4 4 4 4 c.args.p.now _ _ _ _ _ _ _ _ c.requires
-    c.write_four.ensures c.write_four-2.ensures c.write_word.ensures c.write_four-3.ensures refl refl refl refl
+    c.copy_from_slice.ensures.after c.write_word.ensures c.write_word-2.ensures c.write_word-3.ensures refl refl refl refl

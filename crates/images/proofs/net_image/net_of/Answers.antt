@@ -15,15 +15,15 @@ use Rattle.std.proofs.Common.{rules}
 use Rattle.images.proofs.net_image.net_of.Goals as goal
 
 pub loop-i-init : goal.loop-i-init
-loop-i-init c = (search rules, search rules, below_none _)
+loop-i-init c = (search rules, below_none _)
 
 pub loop-i-preserved : goal.loop-i-preserved
 loop-i-preserved c =
     let l = c.loop-i in
     let b = c.args.b.now in
     let is = c.slot_at.ensures ∙ sym (slot_part b l.i c.loop-i-test.true) in
-    let h : l.i < length l.slots = omega (arith, l.invariant.1) in
-    (search rules, simp length-set l.invariant.1, store_more _ l.slots l.i _ slot0 h is l.invariant.2)
+    let h : l.i < length l.slots = omega (arith, l.invariant.0) in
+    (simp length-set l.invariant.0, store_more _ l.slots l.i _ slot0 h is l.invariant.1)
 
 pub returns : goal.returns
 unfolding net_of
@@ -32,4 +32,4 @@ returns c =
     let b = c.args.b.now in
     let e : l.i ≡ 64 = omega arith in
     ap₂ (λ (p : Localities) (xs : List Slot). record { present = p; slots = xs }) c.present_in-present.ensures
-    (tab_of 64 (λ i. slot_of (part_at 56 b i)) l.slots slot0 l.invariant.1 (rw e at l.invariant.2))
+    (tab_of 64 (λ i. slot_of (part_at 56 b i)) l.slots slot0 l.invariant.0 (rw e at l.invariant.1))

@@ -1,33 +1,32 @@
-use mathlib.Core.Path.{ap, ap₂, sym, ◌∙◌}
-use mathlib.Core.List.{List}
-use Prim.Native.Nat.{ℕ, ◌+◌, ◌*◌}
-use native.Mathlib.Omega.{arith}
-use borrow.Author.Tests.{ltb-true}
+use Rattle.std.proofs.Common.{ℕ, ◌+◌, ◌*◌, List, ◌∙◌, sym, ap₂, arith, ltb-true, ap, rules}
 use Rattle.laws.specs.Parts.{put, part_size}
+use Rattle.names.specs.Reads.{read, not_read}
 use Rattle.images.specs.InPlace.{slot_put, slot_lent}
 use Rattle.images.specs.declared.Slot.{Slot}
-use Rattle.std.proofs.Common.{rules}
 use Rattle.images.proofs.net_image.put_keeping.Goals as goal
 
-pub returns-then-not-is_key : goal.returns-then-not-is_key
+pub returns-in_default : goal.returns-in_default
 unfolding slot_put
-returns-then-not-is_key c = rw (sym c.is_key.ensures ∙ c.if-not-is_key.true)
+returns-in_default c = rw (not_read _ _ (sym c.in_default.is ∙ c.place_of.ensures))
 
 pub slice_bounds-write_around-end : goal.slice_bounds-write_around-end
 slice_bounds-write_around-end c =
-    omega (arith, ltb-true c.args.k.0 64 (sym c.is_key.ensures ∙ c.if-not-is_key.false), c.requires.sized)
+    let (is, there) = read _ _ _ (sym c.in-Some.is ∙ c.place_of.ensures) in
+    omega (arith, is, ltb-true c.args.k.0 64 there, c.told-d)
 
 pub write_around-requires : goal.write_around-requires
 write_around-requires c =
-    let there = slot_lent c.args.d.now c.args.k (sym c.is_key.ensures ∙ c.if-not-is_key.false) in
+    let (is, there) = read _ _ _ (sym c.in-Some.is ∙ c.place_of.ensures) in
+    let slot = slot_lent c.args.d.now c.args.k there in
     record {
       slot_sized = search rules;
-      kept = (c.requires.kept.0 ∙ ap (λ (x : Slot). x.contents) there, c.requires.kept.1 ∙ ap (λ (x : Slot). x.refs) there);
+      kept = rw is (c.requires.0 ∙ ap (λ (x : Slot). x.contents) slot, c.requires.1 ∙ ap (λ (x : Slot). x.refs) slot);
     }
 
 pub returns : goal.returns
 unfolding slot_put
 returns c =
+    let (is, there) = read _ _ _ (sym c.in-Some.is ∙ c.place_of.ensures) in
     let at = 16 + 56 * c.args.k.0 in
-    rw (sym c.is_key.ensures ∙ c.if-not-is_key.false)
-    (ap₂ (λ (k : ℕ) (y : List ℕ). put at k c.args.d.now y) (part_size at 56) c.write_around.ensures)
+    let d = c.args.d.now in
+    rw (is, there) (ap₂ (λ (n : ℕ) (y : List ℕ). put at n d y) (part_size at 56) c.write_around.ensures)

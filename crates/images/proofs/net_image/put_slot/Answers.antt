@@ -1,25 +1,22 @@
-use mathlib.Core.Path.{ap₂, sym, ◌∙◌}
-use mathlib.Core.List.{List}
-use Prim.Native.Nat.{ℕ, ◌+◌, ◌*◌}
-use native.Mathlib.Omega.{arith}
-use borrow.Author.Tests.{ltb-true}
+use Rattle.std.proofs.Common.{ℕ, ◌+◌, ◌*◌, List, ◌∙◌, sym, ap₂, arith, ltb-true}
 use Rattle.laws.specs.Parts.{put, part_size}
+use Rattle.names.specs.Reads.{read, not_read}
 use Rattle.images.specs.InPlace.{slot_put}
 use Rattle.images.proofs.net_image.put_slot.Goals as goal
 
-pub returns-then-not-is_key : goal.returns-then-not-is_key
+pub returns-in_default : goal.returns-in_default
 unfolding slot_put
-returns-then-not-is_key c = rw (sym c.is_key.ensures ∙ c.if-not-is_key.true)
+returns-in_default c = rw (not_read _ _ (sym c.in_default.is ∙ c.place_of.ensures))
 
 pub slice_bounds-write_slot-end : goal.slice_bounds-write_slot-end
 slice_bounds-write_slot-end c =
-    omega (arith, ltb-true c.args.k.0 64 (sym c.is_key.ensures ∙ c.if-not-is_key.false), c.requires)
+    let (is, there) = read _ _ _ (sym c.in-Some.is ∙ c.place_of.ensures) in
+    omega (arith, is, ltb-true c.args.k.0 64 there, c.told-d)
 
 pub returns : goal.returns
 unfolding slot_put
 returns c =
-    let start = c.before.before.before.before.before.before.before.before in
-    let d = start.args.d.now in
-    let at = 16 + 56 * start.args.k.0 in
-    rw (sym c.is_key.ensures ∙ c.if-not-is_key.false)
-    (ap₂ (λ (k : ℕ) (y : List ℕ). put at k d y) (part_size at 56) c.write_slot.ensures)
+    let (is, there) = read _ _ _ (sym c.in-Some.is ∙ c.place_of.ensures) in
+    let at = 16 + 56 * c.args.k.0 in
+    let d = c.args.d.now in
+    rw (is, there) (ap₂ (λ (n : ℕ) (y : List ℕ). put at n d y) (part_size at 56) c.write_slot.ensures)

@@ -7,15 +7,13 @@ use Rattle.laws.specs.Parts.{length_first, front_first, length_turn, front_turn}
 use Rattle.images.specs.Head.{head_bytes}
 use Rattle.images.specs.Net.{slot_at, slot_bytes, net_bytes}
 use Rattle.images.specs.Layout.{length_head, length_slot}
-use Rattle.std.proofs.Common.{rules}
 use Rattle.images.proofs.net_image.write_image.Goals as goal
 
 pub loop-i-init : goal.loop-i-init
 loop-i-init c =
     let n = c.args.n in
     let h = length_head 78 n.present.0 in (
-      search rules,
-      length_first 16 c.args.d.now _ _ (omega (arith, c.requires)) c.write_head.ensures h ∙ c.requires,
+      length_first 16 c.args.d.now _ _ (omega (arith, c.told-d)) c.write_head.ensures h ∙ c.told-d,
       front_first 16 (λ k. slot_bytes (slot_at n k)) c.args.d.now _ _ c.write_head.ensures h,
     )
 
@@ -24,13 +22,12 @@ loop-i-preserved c =
     let l = c.loop-i in
     let n = c.args.n in
     let at = 16 + 56 * l.i in
-    let h : at + 56 ≤ length l.d = omega (arith, l.invariant.1) in
+    let h : at + 56 ≤ length l.d = omega (arith, l.invariant.0) in
     let e : 16 + 56 * (l.i + 1) ≡ at + 56 = omega arith in (
-      search rules,
-      length_turn at 56 l.d _ _ h c.write_slot.ensures (length_slot (slot_at n l.i)) ∙ l.invariant.1,
+      length_turn at 56 l.d _ _ h c.write_slot.ensures (length_slot (slot_at n l.i)) ∙ l.invariant.0,
       rw e
           (front_turn at 56 l.i (λ k. slot_bytes (slot_at n k)) (head_bytes 78 n.present.0) l.d _ h (length_slot (slot_at n l.i))
-          c.write_slot.ensures l.invariant.2),
+          c.write_slot.ensures l.invariant.1),
     )
 
 pub returns : goal.returns
@@ -38,4 +35,4 @@ unfolding net_bytes
 returns c =
     let l = c.loop-i in
     let e : l.i ≡ 64 = omega arith in
-    sym (take_all 3600 l.d (omega (arith, l.invariant.1))) ∙ rw e at l.invariant.2
+    sym (take_all 3600 l.d (omega (arith, l.invariant.0))) ∙ rw e at l.invariant.1

@@ -1,5 +1,5 @@
 use mathlib.Core.Path.{◌≡◌}
-use Prim.Native.Nat.{◌*◌, ◌-◌, ◌≤◌}
+use Prim.Native.Nat.{◌*◌}
 use lib.ListN.{length, take, get_or}
 use Rattle.laws.specs.Lists.{tab}
 use Rattle.laws.specs.Parts.{flat}
@@ -9,7 +9,4 @@ use Rattle.images.proofs.net_image.write_numbers.Given as goal
 
 abbrev pub invariant-loop-j : goal.invariant-loop-j
 invariant-loop-j l =
-    (l.j ≤ 8) × (length l.p ≡ 32) × (take (4 * l.j) l.p ≡ flat (tab l.j (λ i. word (get_or l.contents i datum0).number)))
-
-abbrev pub decreases-loop-j : goal.decreases-loop-j
-decreases-loop-j l = 8 - l.j
+    (length l.p ≡ 32) × (take (4 * l.j) l.p ≡ flat (tab l.j (λ i. word (get_or l.contents i datum0).number)))

@@ -1,13 +1,14 @@
-use mathlib.Core.Path.{refl, sym, ◌∙◌}
-use Rattle.step.specs.Tests.{holds_true, fails_false}
-use Rattle.machine.specs.Asked.{good_sizes, find_no, find_yes}
+use mathlib.Core.Path.{refl, ◌∙◌}
+use Rattle.names.specs.Names.{key}
+use Rattle.images.specs.Read.{script_of, net_of}
+use Rattle.finder.specs.Finder.{found_of}
+use Rattle.machine.specs.Asked.{find_no, find_yes}
 use Rattle.machine.proofs.asks.find.Goals as goal
 
-pub returns-in_default : goal.returns-in_default
-returns-in_default c = find_no c.args.script.now c.args.net.now _ c.image_answer-answer.ensures (fails_false _ (sym c.all_hold.ensures ∙ c.in_default.is)) c.args.key _ refl
+pub returns-in-Ok : goal.returns-in-Ok
+returns-in-Ok c =
+    let (good, same, net_same) = c.in-Ok.ensures in
+    find_yes _ _ _ refl good _ _ (c.find.ensures ∙ (λ i. found_of (script_of (same i)) (net_of (net_same i)) (key c.args.key)))
 
-pub find-requires : goal.find-requires
-find-requires c = good_sizes c.args.script.now c.args.net.now _ c.image_answer-answer.ensures (holds_true _ (sym c.all_hold.ensures ∙ c.in-Holds.is))
-
-pub returns : goal.returns
-returns c = find_yes c.args.script.now c.args.net.now _ c.image_answer-answer.ensures (holds_true _ (sym c.all_hold.ensures ∙ c.in-Holds.is)) c.args.key _ c.find.ensures
+pub returns-in-Err : goal.returns-in-Err
+returns-in-Err c = find_no _ _ _ c.in-Err.ensures.0 c.in-Err.ensures.1 _ _ refl

@@ -1,13 +1,13 @@
-use mathlib.Core.Path.{refl, sym, ◌∙◌}
-use Rattle.step.specs.Tests.{holds_true, fails_false}
-use Rattle.machine.specs.Asked.{good_sizes, key_no, key_yes}
+use mathlib.Core.Path.{refl, ◌∙◌}
+use Rattle.images.specs.Read.{net_of}
+use Rattle.finder.specs.Helpers.{free_key}
+use Rattle.machine.specs.Asked.{key_no, key_yes}
 use Rattle.machine.proofs.asks.free_key.Goals as goal
 
-pub returns-in_default : goal.returns-in_default
-returns-in_default c = key_no c.args.script.now c.args.net.now _ c.image_answer-answer.ensures (fails_false _ (sym c.all_hold.ensures ∙ c.in_default.is)) _ refl
+pub returns-in-Ok : goal.returns-in-Ok
+returns-in-Ok c =
+    let (good, same, net_same) = c.in-Ok.ensures in
+    key_yes _ _ _ refl good _ (c.free_key.ensures ∙ (λ i. free_key (net_of (net_same i))))
 
-pub free_key-key-requires : goal.free_key-key-requires
-free_key-key-requires c = (good_sizes c.args.script.now c.args.net.now _ c.image_answer-answer.ensures (holds_true _ (sym c.all_hold.ensures ∙ c.in-Holds.is))).1
-
-pub returns : goal.returns
-returns c = key_yes c.args.script.now c.args.net.now _ c.image_answer-answer.ensures (holds_true _ (sym c.all_hold.ensures ∙ c.in-Holds.is)) _ c.free_key-key.ensures
+pub returns-in-Err : goal.returns-in-Err
+returns-in-Err c = key_no _ _ _ c.in-Err.ensures.0 c.in-Err.ensures.1 _ refl

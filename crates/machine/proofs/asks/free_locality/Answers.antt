@@ -1,13 +1,12 @@
-use mathlib.Core.Path.{refl, sym, ◌∙◌}
-use Rattle.step.specs.Tests.{holds_true, fails_false}
-use Rattle.machine.specs.Asked.{good_sizes, locality_no, locality_yes}
+use mathlib.Core.Path.{refl, ◌∙◌}
+use Rattle.images.specs.Read.{net_of}
+use Rattle.machine.specs.Asked.{locality_no, locality_yes}
 use Rattle.machine.proofs.asks.free_locality.Goals as goal
 
-pub returns-in_default : goal.returns-in_default
-returns-in_default c = locality_no c.args.script.now c.args.net.now _ c.image_answer-answer.ensures (fails_false _ (sym c.all_hold.ensures ∙ c.in_default.is)) _ refl
+pub returns-in-Ok : goal.returns-in-Ok
+returns-in-Ok c =
+    let (good, same, net_same) = c.in-Ok.ensures in
+    locality_yes _ _ _ refl good _ (c.present_in.ensures ∙ (λ i. (net_of (net_same i)).present)) _ c.absent_locality.ensures
 
-pub present_in-present-requires : goal.present_in-present-requires
-present_in-present-requires c = (good_sizes c.args.script.now c.args.net.now _ c.image_answer-answer.ensures (holds_true _ (sym c.all_hold.ensures ∙ c.in-Holds.is))).1
-
-pub returns : goal.returns
-returns c = locality_yes c.args.script.now c.args.net.now _ c.image_answer-answer.ensures (holds_true _ (sym c.all_hold.ensures ∙ c.in-Holds.is)) _ c.present_in-present.ensures _ c.absent_locality-locality.ensures
+pub returns-in-Err : goal.returns-in-Err
+returns-in-Err c = locality_no _ _ _ c.in-Err.ensures.0 c.in-Err.ensures.1 _ refl

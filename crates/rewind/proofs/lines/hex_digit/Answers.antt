@@ -1,9 +1,9 @@
-use mathlib.Core.Path.{refl}
+use Rattle.std.proofs.Common.{refl}
 use borrow.Author.Tests.{lt-ltb, le-ltb}
 use Rattle.rewind.proofs.lines.hex_digit.Goals as goal
 
 pub returns-then-d-lt10 : goal.returns-then-d-lt10
 returns-then-d-lt10 c = rw (lt-ltb c.args.d 10 c.if-d-lt10.true) refl
 
-pub returns : goal.returns
-returns c = rw (le-ltb c.args.d 10 c.if-d-lt10.false) refl
+pub returns-else-d-lt10 : goal.returns-else-d-lt10
+returns-else-d-lt10 c = rw (le-ltb c.args.d 10 c.if-d-lt10.false) refl

@@ -6,6 +6,6 @@ pub returns-then-n-lt10 : goal.returns-then-n-lt10
 unfolding decimal
 returns-then-n-lt10 c = rw (lt-ltb c.args.n 10 c.if-n-lt10.true) c.put.ensures
 
-pub returns : goal.returns
+pub returns-else-n-lt10 : goal.returns-else-n-lt10
 unfolding decimal
-returns c = rw (le-ltb c.args.n 10 c.if-n-lt10.false) (puts_more c.put-next.ensures c.put-2.ensures)
+returns-else-n-lt10 c = rw (le-ltb c.args.n 10 c.if-n-lt10.false) (puts_more c.put-else-n-lt10.ensures c.put-else-n-lt10-2.ensures)

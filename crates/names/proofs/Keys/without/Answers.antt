@@ -1,6 +1,0 @@
-use Rattle.laws.specs.Sets.{excluding, one_shl}
-use Rattle.names.proofs.Keys.without.Goals as goal
-
-pub returns : goal.returns
-unfolding excluding
-returns c = rw (one_shl 64 _ c.requires)
