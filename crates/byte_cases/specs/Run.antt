@@ -30,7 +30,7 @@ use Rattle.rules.specs.Image.{image_of}
 use Rattle.requests.specs.Checks.{refusal}
 use Rattle.requests.specs.Answers as Theory
 use Rattle.requests.specs.Answers.{Request, Outcome, in_range, outcome}
-use Rattle.requests.specs.Requests.{asked, asked_back, number, is_done, answer_of, done_number, request_of}
+use Rattle.requests.specs.Requests.{number, is_done, answer_of, done_number, request_of}
 use Rattle.requests.specs.declared.Answer.{Answer}
 use Rattle.step.specs.Lent.{Good, told, lent_after}
 use Rattle.machine.specs.Calls.{script_in, net_in, good_script, good_net, told_by, Reply, refused_with, reply_to, reply}
@@ -158,24 +158,19 @@ module _ (s : Script) (w : ShapedScript s) (range : script_in_range s ≡ true) 
       abbrev reply_by : Outcome (rules_of s) → Reply
       reply_by x = record { told = told (told_by s x); net = lent_after (told_by s x) N }
 
-      -- a request in range is what is read from its bytes
-      asks : in_range r ≡ true → asked (request_of (request_bytes r)) ≡ r
-      asks h = asked_back (request_bytes r) h
-
       -- both images are read, so the request is served on them
-      reply_read : in_range r ≡ true → a ≡ reply_to (script_in (script_bytes s)) (net_in N) N (Some (request_of (request_bytes r))) → a ≡ reply_by o
-      reply_read h e =
+      reply_read : a ≡ reply_to (script_in (script_bytes s)) (net_in N) N (Some (request_of (request_bytes r))) → a ≡ reply_by o
+      reply_read e =
           e ∙
           ap₂ (λ (x : Option Script) (y : Option Images.Net). reply_to (unwrap_or x nil_script) (unwrap_or y empty_net) N (Some (request_of (request_bytes r)))) script_in_lem net_in_lem ∙
-          (λ i. reply_by (outcome (rolled_by s) (k.viewed i) (asks h i)))
+          ap (λ (v : Net (rules_of s)). reply_by (outcome (rolled_by s) v r)) k.viewed
 
       -- the number that is told is the theory's
-      number_there : in_range r ≡ true → number (answer_of o.answer) ≡ answer_there s m r
+      number_there : number (answer_of o.answer) ≡ answer_there s m r
       unfolding told_by
-      number_there h =
+      number_there =
           subst (λ (v : Net (rules_of s)). number (answer_of (outcome (rolled_by s) v r).answer) ≡ answer_there s v r) k.viewed
-          (subst (λ (q : Request). number (answer_of (outcome (rolled_by s) (view s (image_of s m)) q).answer) ≡ answer_there s (view s (image_of s m)) q) (asks h)
-          (served_number s (image_of s m) (request_of (request_bytes r))))
+          (served_number s (image_of s m) (request_of (request_bytes r)))
 
       bad_follows : Follows s (refused_there s m 3) (refused_with Answer.BadRequest N)
       bad_follows = record { answer = refl; undone = refl; touched = refl; net = refl; kept = k }
@@ -192,19 +187,17 @@ module _ (s : Script) (w : ShapedScript s) (range : script_in_range s ≡ true) 
             net = refl;
             kept =
                 subst (λ (v : Net (rules_of s)). Kept s (Theory.net_after (rolled_by s) v r)) k.viewed
-                (subst (λ (q : Request). Kept s (Theory.net_after (rolled_by s) (view s (image_of s m)) q)) (asks h)
-                (after_kept s w (image_of s m) k.shaped good (request_of (request_bytes r)) (ap in_range (asks h) ∙ h)
-                (ap (answer_there s (view s (image_of s m))) (asks h) ∙
-                subst (λ (v : Net (rules_of s)). answer_there s v r ≡ 0) (sym k.viewed) zero-there)));
+                (after_kept s w (image_of s m) k.shaped good (request_of (request_bytes r)) h
+                (subst (λ (v : Net (rules_of s)). answer_there s v r ≡ 0) (sym k.viewed) zero-there));
           }
 
-      refused_follows : in_range r ≡ true → eqb (answer_there s m r) 0 ≡ false
+      refused_follows : eqb (answer_there s m r) 0 ≡ false
           → Follows s (refused_there s m (answer_there s m r)) (reply_by (refused_there s m (answer_there s m r)))
       unfolding told_by lent_after
-      refused_follows h z =
+      refused_follows z =
           let not_done : is_done (answer_of (answer_there s m r)) ≡ false = done_number (answer_there s m r) ∙ z in
           record {
-            answer = ap (λ (x : Outcome (rules_of s)). number (answer_of x.answer)) (sym (outcome_refused s m r z)) ∙ number_there h;
+            answer = ap (λ (x : Outcome (rules_of s)). number (answer_of x.answer)) (sym (outcome_refused s m r z)) ∙ number_there;
             undone = refl;
             touched = refl;
             net = rw not_done refl;
@@ -227,13 +220,13 @@ module _ (s : Script) (w : ShapedScript s) (range : script_in_range s ≡ true) 
               by (done_there s m r) e (reply_by (done_there s m r)) (q ∙ ap reply_by e) (done_follows h z))
               (λ z.
               let e = outcome_refused s m r z in
-              by (refused_there s m (answer_there s m r)) e (reply_by (refused_there s m (answer_there s m r))) (q ∙ ap reply_by e) (refused_follows h z))
+              by (refused_there s m (answer_there s m r)) e (reply_by (refused_there s m (answer_there s m r))) (q ∙ ap reply_by e) (refused_follows z))
 
           each : Call (script_bytes s) N (request_bytes r) → Follows s o a
           each (bad_script_lem g e) = clash (good_script (script_bytes s)) script_good g
           each (bad_net_lem g h e) = clash (good_net (script_in (script_bytes s)) N) net_good h
           each (bad_request g h q e) = by (refused_there s m 3) (outcome_bad s m r q) (refused_with Answer.BadRequest N) e bad_follows
-          each (all_read g h q e) = served q (reply_read q e)
+          each (all_read g h q e) = served q (reply_read e)
 
   -- ---- calls in a row
 

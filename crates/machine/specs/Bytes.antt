@@ -203,11 +203,11 @@ module _ (S N Q : List ℕ) where
   in_range_lem h = and_right (eqb (length Q) 6) _ h
 
   -- what is asked of the code is what the bytes ask
-  pub asked_is : is_read Q ≡ true → asked (request_of Q) ≡ asked_by Q
-  asked_is h = asked_back Q (in_range_lem h)
+  pub asked_is : asked (request_of Q) ≡ asked_by Q
+  asked_is = asked_back Q
 
   pub asked_range : is_read Q ≡ true → in_range (asked (request_of Q)) ≡ true
-  asked_range h = ap in_range (asked_is h) ∙ in_range_lem h
+  asked_range h = in_range_lem h
 
 -- ---- a refusal
 
@@ -350,23 +350,23 @@ module _ (s : Script) (w : ShapedScript s) (n : Images.Net) (v : ShapedNet n) (g
   abbrev Allowed : Type 0
   Allowed = Theory.answer (rolled_by s) W (asked r) ≡ 0
 
-  pub forward_allowed : eqb (asked r).code 0 ≡ true → Allowed → Can W (Theory.places (rolled_by s) W (asked r))
+  pub forward_allowed : eqb r.code 0 ≡ true → Allowed → Can W (Theory.places (rolled_by s) W (asked r))
   forward_allowed a z = forward_can (rolled_by s) refl refl W (asked r) range (sym (answer_forward s n (asked r) range a) ∙ z)
 
-  module _ (a : eqb (asked r).code 0 ≡ false) where
-    pub backward_allowed : eqb (asked r).code 1 ≡ true → Allowed → Undoable W r.key.0
+  module _ (a : eqb r.code 0 ≡ false) where
+    pub backward_allowed : eqb r.code 1 ≡ true → Allowed → Undoable W r.key.0
     unfolding backward_checks
     backward_allowed b z =
         let hold = all_hold (backward_checks (rolled_by s) W (asked r)) ((λ e. omega (arith, e)), ((λ e. omega (arith, e)), ((λ e. omega (arith, e)), tt))) (sym (answer_backward s n (asked r) range a b) ∙ z) in
         undo_can (rolled_by s) refl W good.accepted (asked r) hold.0 hold.1.1.0
 
-    module _ (b : eqb (asked r).code 1 ≡ false) where
-      rollback_allowed : eqb (asked r).code 2 ≡ true → Allowed → r.key.0 ∈ events W
+    module _ (b : eqb r.code 1 ≡ false) where
+      rollback_allowed : eqb r.code 2 ≡ true → Allowed → r.key.0 ∈ events W
       unfolding rollback_checks
       rollback_allowed c z =
           (all_hold (rollback_checks (rolled_by s) W (asked r)) ((λ e. omega (arith, e)), ((λ e. omega (arith, e)), ((λ e. omega (arith, e)), tt))) (sym (answer_rollback s n (asked r) range a b c) ∙ z)).0
 
-      roll_allowed : eqb (asked r).code 2 ≡ false → Allowed → rolled_by s (W.slot r.key.0).body ∈ events W
+      roll_allowed : eqb r.code 2 ≡ false → Allowed → rolled_by s (W.slot r.key.0).body ∈ events W
       unfolding roll_answer
       roll_allowed c z =
           let h : is_done (roll_answer s n r) ≡ true = ap (λ (j : ℕ). is_done (answer_of j)) (sym (answer_roll s n (asked r) range a b c) ∙ z) in
@@ -376,20 +376,20 @@ module _ (s : Script) (w : ShapedScript s) (n : Images.Net) (v : ShapedNet n) (g
       event_allowed : Allowed → Theory.event (rolled_by s) W (asked r) ∈ events W
       unfolding Theory.event in_range
       event_allowed z =
-          cases (eqb (asked r).code 2)
-          (λ c. let d : eqb (asked r).code 3 ≡ false = ne_eqb (asked r).code 3 (λ e. omega (arith, e, eqb-true (asked r).code 2 c)) in rw d (rollback_allowed c z))
+          cases (eqb r.code 2)
+          (λ c. let d : eqb r.code 3 ≡ false = ne_eqb r.code 3 (λ e. omega (arith, e, eqb-true r.code 2 c)) in rw d (rollback_allowed c z))
           (λ c.
-          let d : eqb (asked r).code 3 ≡ true =
-          eq-eqb (asked r).code 3
-          (omega (arith, leb-true (asked r).code 3 (and_left (leb (asked r).code 3) _ range), eqb-false (asked r).code 0 a, eqb-false (asked r).code 1 b, eqb-false (asked r).code 2 c)) in
+          let d : eqb r.code 3 ≡ true =
+          eq-eqb r.code 3
+          (omega (arith, leb-true r.code 3 (and_left (leb r.code 3) _ range), eqb-false r.code 0 a, eqb-false r.code 1 b, eqb-false r.code 2 c)) in
           rw d (roll_allowed c z))
 
   -- the net after the call is one that an image holds, and accepted
   pub after_kept : Allowed → Kept s (Theory.net_after (rolled_by s) W (asked r))
   unfolding Theory.net_after
   after_kept z =
-      cases (eqb (asked r).code 0) (λ a. rw a (forward_kept s w good.script n v good r range (forward_allowed a z)))
-      (λ a. cases (eqb (asked r).code 1) (λ b. rw (a, b) (undo_kept s w good.script n v good r.key.0 (backward_allowed a b z)))
+      cases (eqb r.code 0) (λ a. rw a (forward_kept s w good.script n v good r range (forward_allowed a z)))
+      (λ a. cases (eqb r.code 1) (λ b. rw (a, b) (undo_kept s w good.script n v good r.key.0 (backward_allowed a b z)))
       (λ b.
       rw (a, b)
       (rollback_kept s w good.script W (kept_of s n v good.net W refl good.accepted) (Theory.event (rolled_by s) W (asked r)) (event_allowed a b z))))
@@ -398,8 +398,8 @@ module _ (s : Script) (w : ShapedScript s) (n : Images.Net) (v : ShapedNet n) (g
   pub undone_few : Allowed → Theory.undone (rolled_by s) W (asked r) ≤ 63
   unfolding Theory.undone
   undone_few z =
-      cases (eqb (asked r).code 0) (λ a. rw a (omega arith))
-      (λ a. cases (eqb (asked r).code 1) (λ b. rw (a, b) (omega arith))
+      cases (eqb r.code 0) (λ a. rw a (omega arith))
+      (λ a. cases (eqb r.code 1) (λ b. rw (a, b) (omega arith))
       (λ b. rw (a, b) (omega (arith, undone_below s w good.script W good.accepted (Theory.event (rolled_by s) W (asked r)) (event_allowed a b z)))))
 
 -- ---- the bytes that a call leaves

@@ -29,7 +29,7 @@ use Rattle.accept.specs.Verdict.{verdict_of}
 use Rattle.accept.proofs.Laws.{accepted_verdict}
 use Rattle.accept.specs.declared.Fault.{Fault}
 use Rattle.requests.specs.Answers.{in_range}
-use Rattle.requests.specs.Requests.{asked, asked_by, asked_back, is_done, refusal, request_of, read_request}
+use Rattle.requests.specs.Requests.{asked, asked_by, is_done, refusal, request_of, read_request}
 use Rattle.requests.specs.declared.Request.{Request}
 use Rattle.requests.specs.declared.Answer.{Answer}
 use Rattle.requests.specs.declared.Told.{Told}
@@ -55,7 +55,7 @@ read_in_range q r e =
     (λ g.
     let there : Some r ≡ Some (request_of q) = e ∙ rw (h, g) refl in
     let same : r ≡ request_of q = cc in
-    ap (λ (z : Request). in_range (asked z)) same ∙ ap in_range (asked_back q g) ∙ g)
+    ap (λ (z : Request). in_range (asked z)) same ∙ g)
     (λ g. let bad : Some r ≡ None = e ∙ rw (h, g) refl in cc))
     (λ h. let bad : Some r ≡ None = e ∙ rw h refl in cc)
 

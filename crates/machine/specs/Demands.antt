@@ -221,8 +221,7 @@ module _ (S N Q : List ℕ) where
       each (Why.bad_request g h k e) = Why.told_as S N Q _ e ∙ rw (g, h, k) refl
       each (Why.all_read g h k e) =
           let range = Why.in_range_lem S N Q k in
-          Why.told_as S N Q _ e ∙ Why.served_number (script_in S) (net_in N) (request_of Q) ∙
-          ap (Theory.answer (rolled_by (script_in S)) (view_in S N)) (Why.asked_is S N Q k) ∙ code_answer range ∙ rw (g, h, k) refl
+          Why.told_as S N Q _ e ∙ Why.served_number (script_in S) (net_in N) (request_of Q) ∙ code_answer range ∙ rw (g, h, k) refl
 
   -- no check has the number 0
   code_numbered : Numbered (code_checks S N r)
@@ -262,7 +261,7 @@ module _ (S N : List ℕ) (bS : Bytes S) (bN : Bytes N) where
   after Q z =
       let d = Why.doing S N Q z in
       let h = Why.next_held S N Q bS bN d in
-      record { bytes = h.net_bytes_lem; images = (h.script, h.net); viewed = Why.next_view S N Q bS bN d ∙ ap (net_after (rolled_by (script_in S)) (view_in S N)) (Why.asked_is S N Q d.request) }
+      record { bytes = h.net_bytes_lem; images = (h.script, h.net); viewed = Why.next_view S N Q bS bN d }
 
   pub demand_2 : Demand2 S N
   demand_2 =

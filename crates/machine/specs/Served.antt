@@ -64,7 +64,7 @@ module _ (s : Script) (w : ShapedScript s) (n : Images.Net) (v : ShapedNet n) (g
 
   -- ---- forward
 
-  module _ (code : eqb (asked r).code 0 ≡ true) where
+  module _ (code : eqb r.code 0 ≡ true) where
     forward_net : is_done (forward_answer s n r) ≡ true → applied n (forward_change s n r) ≡ image_of s (Theory.net_after (rolled_by s) W (asked r))
     unfolding Theory.net_after
     forward_net h =
@@ -102,9 +102,9 @@ module _ (s : Script) (w : ShapedScript s) (n : Images.Net) (v : ShapedNet n) (g
 
   -- ---- backward
 
-  module _ (code : eqb (asked r).code 1 ≡ true) where
-    not_0 : eqb (asked r).code 0 ≡ false
-    not_0 = ne_eqb (asked r).code 0 (λ e. omega (arith, e, eqb-true (asked r).code 1 code))
+  module _ (code : eqb r.code 1 ≡ true) where
+    not_0 : eqb r.code 0 ≡ false
+    not_0 = ne_eqb r.code 0 (λ e. omega (arith, e, eqb-true r.code 1 code))
 
     answer_there_lem : Theory.answer (rolled_by s) W (asked r) ≡ refusal (backward_checks (rolled_by s) W (asked r))
     answer_there_lem = answer_backward s n (asked r) range not_0 code
@@ -138,9 +138,9 @@ module _ (s : Script) (w : ShapedScript s) (n : Images.Net) (v : ShapedNet n) (g
 
   -- ---- rollback
 
-  module _ (code : eqb (asked r).code 2 ≡ true) where
-    differs : (k : ℕ) → eqb k 2 ≡ false → eqb (asked r).code k ≡ false
-    differs k h = ne_eqb (asked r).code k (λ e. eqb-false k 2 h (sym e ∙ eqb-true (asked r).code 2 code))
+  module _ (code : eqb r.code 2 ≡ true) where
+    differs : (k : ℕ) → eqb k 2 ≡ false → eqb r.code k ≡ false
+    differs k h = ne_eqb r.code k (λ e. eqb-false k 2 h (sym e ∙ eqb-true r.code 2 code))
 
     pub rollback_served : rollback_outcome s n r ≡ served s n r
     unfolding rollback_outcome outcome_by rollback_answer undone_all Theory.undone Theory.touched_word Theory.net_after Theory.event
@@ -154,18 +154,18 @@ module _ (s : Script) (w : ShapedScript s) (n : Images.Net) (v : ShapedNet n) (g
 
   -- ---- roll
 
-  module _ (one : eqb (asked r).code 0 ≡ false) (two : eqb (asked r).code 1 ≡ false) (three : eqb (asked r).code 2 ≡ false) where
+  module _ (one : eqb r.code 0 ≡ false) (two : eqb r.code 1 ≡ false) (three : eqb r.code 2 ≡ false) where
     -- no other code is left
-    code_3 : eqb (asked r).code 3 ≡ true
+    code_3 : eqb r.code 3 ≡ true
     unfolding in_range
     code_3 =
-        eq-eqb (asked r).code 3
+        eq-eqb r.code 3
         (omega (
           arith,
-          leb-true (asked r).code 3 (and_left (leb (asked r).code 3) _ range),
-          eqb-false (asked r).code 0 one,
-          eqb-false (asked r).code 1 two,
-          eqb-false (asked r).code 2 three,
+          leb-true r.code 3 (and_left (leb r.code 3) _ range),
+          eqb-false r.code 0 one,
+          eqb-false r.code 1 two,
+          eqb-false r.code 2 three,
         ))
 
     pub roll_served : roll_outcome s n r ≡ served s n r

@@ -58,11 +58,12 @@ fn serve(script: &ScriptBytes, net: &mut NetBytes, r: Request) -> Told
     ensures value { result ≡ told (served (script_in script.now) (net_in net.old) r) }
     ensures net_after { net.new ≡ lent_after (served (script_in script.now) (net_in net.old) r) net.old }
 {
-    match r.code {
-        Code::Forward => forward(script, net, r),
-        Code::Backward => backward(script, net, r),
-        Code::Rollback => rollback(script, net, r),
-        Code::Roll => roll(script, net, r),
+    match Code::of_byte(r.code) {
+        Some(Code::Forward) => forward(script, net, r),
+        Some(Code::Backward) => backward(script, net, r),
+        Some(Code::Rollback) => rollback(script, net, r),
+        Some(Code::Roll) => roll(script, net, r),
+        None => refused(Answer::BadRequest),
     }
 }
 

@@ -78,7 +78,7 @@ passed a x t f g present r h =
 
 key_below : (r : Request) → in_range (asked r) ≡ true → r.key.0 < key_count
 unfolding in_range
-key_below r h = ltb-true r.key.0 key_count (and_left (ltb r.key.0 key_count) _ (and_right (leb (asked r).code 3) _ h))
+key_below r h = ltb-true r.key.0 key_count (and_left (ltb r.key.0 key_count) _ (and_right (leb r.code 3) _ h))
 
 -- ---- the slots that are put are in range
 
@@ -177,7 +177,7 @@ node_shaped s w k = cases (is_node k) (λ t. rw t (w.at k.0 (ltb-true k.0 node_c
 place_word : (r : Request) → in_range (asked r) ≡ true → Word r.place.0
 unfolding in_range
 place_word r h =
-    let h₁ = and_right (ltb r.key.0 key_count) _ (and_right (leb (asked r).code 3) _ h) in
+    let h₁ = and_right (ltb r.key.0 key_count) _ (and_right (leb r.code 3) _ h) in
     let h₂ = and_right (below_or_none key_count r.first.0) _ (and_right (below_or_none key_count r.used.0) _ h₁) in
     let h₃ = and_right (below_or_none key_count r.second.0) _ h₂ in
     cases (eqb r.place.0 none) (λ e. omega (arith, eqb-true r.place.0 none e))

@@ -44,7 +44,7 @@ module _ (b : Body) where
 places_in_range : (x : Slot) (r : Request) → in_range (asked r) ≡ true → made_in_range (past_slot x r) ≡ true
 unfolding in_range made_in_range
 places_in_range x r h =
-    let h₁ = and_right (ltb r.key.0 key_count) _ (and_right (leb (asked r).code 3) _ h) in
+    let h₁ = and_right (ltb r.key.0 key_count) _ (and_right (leb r.code 3) _ h) in
     let h₂ = and_right (below_or_none key_count r.used.0) _ h₁ in
     let h₃ = and_right (below_or_none key_count r.first.0) _ h₂ in
     and_both (below_or_none key_count r.first.0) _ (and_left (below_or_none key_count r.first.0) _ h₂)

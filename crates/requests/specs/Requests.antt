@@ -2,7 +2,7 @@
 -- In order: `number`, the list of answers and the answer of a number (`answer_of`), which are each other's inverse (`answer_number`, `number_of`,
 -- `number_back`); checks that have an answer's number (`Known`); an answer is done exactly where its number is 0 (`done_number`, `done_zero`), and one
 -- of the list (`number_listed`, `listed`); what a call tells that is refused (`refusal`); a code's number and a number's code (`code_number`, `code`,
--- `code_of`), each other's inverse (`code_back`); a request in numbers (`asked`), the one that six bytes are (`asked_by`, `request_of`), and that both
+-- `code_of`), each other's inverse (`code_back`, `code_is`); a request in numbers (`asked`), the one that six bytes are (`asked_by`, `request_of`), and that both
 -- agree (`asked_back`); `read_request`, and a request whose code and names were read (`request_read`).
 -- Assumes nothing.
 use Rattle.std.specs.Prelude.{ℕ, zero, suc, ◌≡◌, refl, ◌⊎◌, List, [], ◌∷◌, Bool, true, false, ◌&&◌, not, eqb, leb, length, get_or, Option, Some, None}
@@ -191,10 +191,14 @@ code_back b h = grind (arith, nat_tests)
 pub code_read : (b : ℕ) (c : Code) → Some c ≡ code_of b → (c ≡ code b) × (leb b 3 ≡ true)
 code_read b c e = read (leb b 3) (code b) c e
 
+-- a byte that has a code is the code's number
+pub code_is : (b : ℕ) (c : Code) → Some c ≡ code_of b → code_number c ≡ b
+code_is b c e = let r = code_read b c e in ap code_number r.0 ∙ code_back b r.1
+
 -- a request in numbers
 abbrev pub asked : Request → A.Request
 asked r =
-    record { code = code_number r.code; key = r.key.0; used = r.used.0; first = r.first.0; second = r.second.0; place = r.place.0 }
+    record { code = r.code; key = r.key.0; used = r.used.0; first = r.first.0; second = r.second.0; place = r.place.0 }
 
 -- "Six bytes: code, key, tuple key, first and second fresh key, fresh locality."
 abbrev pub asked_by : List ℕ → A.Request
@@ -211,7 +215,7 @@ asked_by b =
 abbrev pub request_of : List ℕ → Request
 request_of b =
     record {
-      code = code (get_or b 0 0);
+      code = get_or b 0 0;
       key = key (get_or b 1 0);
       used = key (get_or b 2 0);
       first = key (get_or b 3 0);
@@ -219,23 +223,20 @@ request_of b =
       place = locality (get_or b 5 0);
     }
 
--- in range it asks what its bytes do
-pub asked_back : (b : List ℕ) → A.in_range (asked_by b) ≡ true → asked (request_of b) ≡ asked_by b
-unfolding A.in_range
-asked_back b h =
-    let c = code_back (get_or b 0 0) (and_left (leb (get_or b 0 0) 3) _ h) in
-    (λ i. record { code = c i; key = get_or b 1 0; used = get_or b 2 0; first = get_or b 3 0; second = get_or b 4 0; place = get_or b 5 0 })
+-- it asks what its bytes do
+pub asked_back : (b : List ℕ) → asked (request_of b) ≡ asked_by b
+asked_back b = refl
 
 -- 3: "request not 6 bytes; code above 3; key above 63; others neither 255 nor in range"
 unfoldable pub read_request : List ℕ → Option Request
 read_request b =
     pick (eqb (length b) 6) (pick (A.in_range (asked_by b)) (Some (request_of b)) None) None
 
--- the code and the names that were read are the request's
+-- the names that were read are the request's, and its code is the byte
 pub request_read : (b : List ℕ) (c : Code) (k u f s : Key) (p : Locality) → length b ≡ 6 → Some c ≡ code_of (get_or b 0 0)
     → Some k ≡ key_of (get_or b 1 0) → Some u ≡ key_or_none (get_or b 2 0) → Some f ≡ key_or_none (get_or b 3 0)
     → Some s ≡ key_or_none (get_or b 4 0) → Some p ≡ locality_or_none (get_or b 5 0)
-    → Some (record { code = c; key = k; used = u; first = f; second = s; place = p }) ≡ read_request b
+    → Some (record { code = get_or b 0 0; key = k; used = u; first = f; second = s; place = p }) ≡ read_request b
 unfolding read_request A.in_range
 request_read b c k u f s p six is_c is-k is-u is_f is-s is-p =
     let code-there = code_read (get_or b 0 0) c is_c in
@@ -247,7 +248,7 @@ request_read b c k u f s p six is_c is-k is-u is_f is-s is-p =
     rw (eq-eqb (length b) 6 six, code-there.1, key-there.1, used-there.1, first_there.1, second_there.1, place_there.1)
     (λ i.
     Some (record {
-      code = code-there.0 i;
+      code = get_or b 0 0;
       key = key-there.0 i;
       used = used-there.0 i;
       first = first_there.0 i;

@@ -33,10 +33,11 @@ impl Code {
     }
 }
 
-// What a call is asked. A place that the code has no need for is none.
+// What a call is asked. The code is a byte, which may be any: most that takes a request doesn't look at it. A place that the code has no need for is
+// none.
 #[derive(Clone, Copy)]
 pub struct Request {
-    pub code: Code,
+    pub code: u8,
     pub key: Key,
     // The tuple that an in or a read meets.
     pub used: Key,
@@ -48,6 +49,14 @@ pub struct Request {
 
 impl Request {
     pub const SIZE: usize = 6;
+
+    pub const FORWARD: u8 = 0;
+
+    pub const BACKWARD: u8 = 1;
+
+    pub const ROLLBACK: u8 = 2;
+
+    pub const ROLL: u8 = 3;
 }
 
 // Document 01's table, in its order.
@@ -144,8 +153,9 @@ pub fn read_request(b: &[u8]) -> Option<Request>
     if b.len() != Request::SIZE {
         return None;
     }
+    Code::of_byte(b[0])?;
     Some(Request {
-        code: Code::of_byte(b[0])?,
+        code: b[0],
         key: Key::of_byte(b[1])?,
         used: Key::or_none(b[2])?,
         first: Key::or_none(b[3])?,

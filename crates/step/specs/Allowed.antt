@@ -21,7 +21,7 @@ use Rattle.products.specs.Products.{is_step, meets_tuple, target_there, ready_by
 use Rattle.products.specs.Acting.{acts_at, readiness, ready_acts, unset_false}
 use Rattle.requests.specs.Checks.{Check, refusal, all_hold}
 use Rattle.requests.specs.Answers.{in_range, as_needed}
-use Rattle.requests.specs.Requests.{asked, code_number, is_done, answer_of, done_zero}
+use Rattle.requests.specs.Requests.{asked, is_done, answer_of, done_zero}
 use Rattle.requests.specs.declared.Request.{Request}
 use Rattle.requests.specs.declared.Answer.{Answer}
 use Rattle.step.specs.Tests.{places_by, tuple_there, names_fresh, forward_tests, template_answer, answer_met, answer_not_met}
@@ -179,7 +179,7 @@ module _ (a : Action) (n : Net) (r : Request) where
 pub used_key : (kind : ℕ) (r : Request) → in_range (asked r) ≡ true → places_by kind r ≡ true → meets_tuple kind ≡ true → is_key r.used ≡ true
 unfolding in_range places_by
 used_key kind r range given m =
-    let rest = and_right (ltb r.key.0 key_count) _ (and_right (leb (code_number r.code) 3) _ range) in
+    let rest = and_right (ltb r.key.0 key_count) _ (and_right (leb r.code 3) _ range) in
     let below : below_or_none key_count r.used.0 ≡ true = and_left (below_or_none key_count r.used.0) _ rest in
     let needed : as_needed (meets_tuple kind) r.used.0 ≡ true = and_left (as_needed (meets_tuple kind) r.used.0) _ given in
     let some : eqb r.used.0 none ≡ false = not-true (eqb r.used.0 none) (subst (λ (b : Bool). as_needed b r.used.0 ≡ true) m needed) in
@@ -187,7 +187,7 @@ used_key kind r range given m =
 
 pub in_range_key : (r : Request) → in_range (asked r) ≡ true → r.key.0 < key_count
 unfolding in_range
-in_range_key r range = ltb-true r.key.0 key_count (and_left (ltb r.key.0 key_count) _ (and_right (leb (code_number r.code) 3) _ range))
+in_range_key r range = ltb-true r.key.0 key_count (and_left (ltb r.key.0 key_count) _ (and_right (leb r.code 3) _ range))
 
 -- a key is looked up where it is
 pub slot_with_lem : (n : Net) (k : Key) → k.0 < key_count → slot_at n k.0 ≡ slot_with n k

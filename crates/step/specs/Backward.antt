@@ -24,7 +24,6 @@ use Rattle.requests.specs.Checks.{refusal}
 use Rattle.requests.specs.Answers.{backward_checks}
 use Rattle.requests.specs.Requests.{asked, answer_of}
 use Rattle.requests.specs.declared.Request.{Request}
-use Rattle.requests.specs.declared.Code.{Code}
 use Rattle.requests.specs.declared.Answer.{Answer}
 use Rattle.step.specs.Lent.{Outcome}
 use Rattle.step.specs.Change.{Put, Change, put, nowhere, stepped, stepped_to}
@@ -76,4 +75,4 @@ backward_outcome s n r = stepped_to n (backward_change s n r)
 
 -- the request that undoes an event
 abbrev pub undoing : Key → Request
-undoing k = record { code = Code.Backward; key = k; used = key none; first = key none; second = key none; place = locality none }
+undoing k = record { code = 1; key = k; used = key none; first = key none; second = key none; place = locality none }
