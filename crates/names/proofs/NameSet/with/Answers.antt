@@ -1,14 +1,16 @@
+use Rattle.std.specs.Prelude.{◌^◌}
 use Rattle.std.proofs.Common.{◌<◌, arith}
-use Rattle.laws.specs.Sets.{including, including_lt, one_shl}
+use Rattle.std.proofs.Math.Pow.{pow-lt}
+use Rattle.std.proofs.lemmas.Nat.{or_lt}
+use Rattle.laws.specs.Sets.{including, one_shl}
 use Rattle.names.proofs.NameSet.with.Goals as goal
 
 pub of_word-requires : goal.of_word-requires
-unfolding including
 of_word-requires g c =
     let below : c.number.result < g.Self.Name.Name.LIMIT = omega arith in
     let in_word : c.number.result < 64 = omega (arith, g.met.Self.NameSet.in_a_word) in
-    rw (one_shl 64 c.number.result in_word)
-    (including_lt g.Self.Name.Name.LIMIT c.word.result c.number.result c.word.ensures.within below)
+    let bit : 2 ^ c.number.result < 2 ^ g.Self.Name.Name.LIMIT = pow-lt below in
+    or_lt g.Self.Name.Name.LIMIT c.word.result _ c.word.ensures.within (omega (arith, one_shl 64 c.number.result in_word, bit))
 
 pub returns : goal.returns
 unfolding including
