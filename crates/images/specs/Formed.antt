@@ -1,5 +1,5 @@
 -- The form of a part, as tests on its bytes where they stand: what the code asks of the 56 bytes of a slot is what is asked of the slot.
--- In order: variables and fields (`variables_here`, `data_here`), references (`refers_here`, `refs_all`, `refers_all`), what was made
+-- In order: variables and fields (`variables_here`, `data_here`), references (`refs_here`, `refers_here`, `refs_all`, `refers_all`), what was made
 -- (`makes_all`), a process (`process_here`) and a tuple (`tuple_here`); a node that is nil, known by its eight words (`nil_word`, `nil_later`, `nil_here`), and a free slot, known by its
 -- thirteen (`words_here`).
 -- Assumes nothing.
@@ -16,7 +16,7 @@ use Rattle.laws.specs.Checks.{all, all_of, all_at, all_ext}
 use Rattle.laws.specs.Lists.{tab, tab_ext, get_d_tab, tab_part}
 use Rattle.laws.specs.Parts.{flat, flat_parts}
 use Rattle.laws.specs.Words.{Bytes, word, bytes_of, word_at, number, word_at_bytes, word_word_at}
-use Rattle.names.specs.Names.{key_count, none, below_or_none, locality, node, is_locality, is_node}
+use Rattle.names.specs.Names.{key_count, none, below_or_none, key, locality, node, is_key_or_none, is_locality, is_node}
 use Rattle.images.specs.Head.{byte, pair_bytes, rest_zero}
 use Rattle.images.specs.Script.{action_bytes, node_in_place, target_in_place, reference_in_place, is_blank, count_in_place, field_in_place, fields_in_place, same_formal, fresh_formal, formals_distinct, places_in_row, fields_in_row, action_in_range}
 use Rattle.images.specs.Net.{datum0, free_slot, slot_bytes, is_unset, is_datum, field_or_blank, variables_in_range, data_fill, made_are, refs_are, refs_in_range, free_in_range, process_in_range, tuple_in_range}
@@ -34,6 +34,12 @@ module _ (p : List ℕ) where
   pub data_here : (count : ℕ) → all 8 (λ j. field_or_blank count j (datum_of p j)) ≡ data_fill count (slot_of p).contents
   unfolding data_fill
   data_here count = all_ext 8 _ _ (λ j l. ap (field_or_blank count j) (datum_here j l))
+
+  pub refs_here : (is_key_or_none (key (byte p 48)) && (is_key_or_none (key (byte p 49)) && (is_key_or_none (key (byte p 50)) && is_key_or_none (key (byte p 51))))) ≡ refs_in_range (slot_of p).refs
+  unfolding refs_in_range slot_of tab all
+  refs_here =
+      ap (λ (b : Bool). is_key_or_none (key (byte p 48)) && (is_key_or_none (key (byte p 49)) && (is_key_or_none (key (byte p 50)) && b)))
+      (sym (and-true (is_key_or_none (key (byte p 51)))))
 
   pub refers_here : (b : ℕ) → (eqb (byte p 48) b && (eqb (byte p 49) b && (eqb (byte p 50) b && eqb (byte p 51) b))) ≡ refs_are b (slot_of p).refs
   unfolding refs_are slot_of tab all

@@ -1,5 +1,7 @@
 -- How many bytes an image has, and a part of one. Document 01: "then 64 nodes of 32 bytes from 16", "then 64 slots of 56 bytes from 16".
--- Contracts say these names and no number: an image with other parts changes them here.
+-- The length of lent bytes is mostly their type (`ScriptBytes`, `NetBytes`, `NodeBytes`, `SlotBytes` in src/). Contracts say these names where a part
+-- begins (`head_size`, `node_size`, `slot_size`) and of a slot that is lent as a slice (`SlotSized`), laws of a script's and a net's bytes (`Scripted`,
+-- `Sized`): an image with other parts changes them here, and the types with them.
 -- Assumes nothing.
 use Rattle.std.specs.Prelude.{ℕ, ◌+◌, ◌*◌, ◌≡◌, true, List, eqb, length}
 use Rattle.std.proofs.Common.{eqb-true}

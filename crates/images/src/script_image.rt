@@ -1,8 +1,8 @@
 // The script image, taken apart: 64 nodes, each held to the row of its kind.
-ghost use Rattle.std.specs.Prelude.{◌≡◌, ◌<◌, true, false, MatchOption};
+ghost use Rattle.std.specs.Prelude.{◌≡◌, ◌+◌, ◌*◌, ◌<◌, true, false, MatchOption};
 ghost use Rattle.names.specs.Names.{node_count};
 ghost use Rattle.images.specs.Head.{part_at};
-ghost use Rattle.images.specs.Sizes.{node_size};
+ghost use Rattle.images.specs.Sizes.{head_size, node_size};
 ghost use Rattle.images.specs.Script.{kind_count, field_count, row_of, node_in_place, target_in_place, reference_in_place, field_in_range, count_in_place, field_in_place, fields_in_place, same_formal, fresh_formal, formals_distinct, places_in_row, fields_in_row, action_in_range};
 ghost use Rattle.images.specs.Formed.{nil_word};
 ghost use Rattle.images.specs.Read.{field_of, action_of, action_formed, nodes_formed, script_of, script_formed, nil_action, node_with, read_script};
@@ -303,6 +303,13 @@ fn action_formed(p: &NodeBytes) -> bool
 }
 
 // ---- a node of an image
+
+// Where the bytes of the node of this number begin.
+pub fn start(k: Node) -> usize
+    ensures { result ≡ head_size + node_size * k.0 }
+{
+    head::SIZE + NODE_SIZE * k.0 as usize
+}
 
 // The bytes of node i of an image.
 pub fn node_bytes(script: &ScriptBytes, i: usize) -> &NodeBytes
