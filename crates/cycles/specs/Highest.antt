@@ -2,7 +2,7 @@
 -- looked at and taken out.
 --
 -- In order: `Highest`; it is where the leading zeros end (`some_zeros`, `highest_bit`); without one of its keys a word is less (`fewer_less`, `without_less`); `ToCome`,
--- the keys below a bound are still to come: at first (`to_come_first`), the greatest of them (`to_come_near`), those passed
+-- the keys below a bound are still to come: at first (`to_come_first`), the greatest of them (`to_come_near`, `to_come_there`), those passed
 -- over (`to_come_over`), once it was looked at (`to_come_next`), at last (`to_come_none`), and of another word (`to_come_other`).
 -- Assumes nothing.
 use Rattle.std.specs.Prelude.{◌≡◌, refl, true, false, ℕ, suc, ◌-◌, ◌/◌, ◌%◌, ◌^◌, ◌≤◌, ◌<◌, eqb, ltb}
@@ -80,11 +80,14 @@ to_come_first word = record { within = omega arith; below = λ x l. refl; passed
 
 module _ (bound : ℕ) (word toCome : Keys) (w : ToCome bound word toCome) where
   module _ (k : Key) (h : Highest toCome k) where
-    -- the greatest of them is below the bound
+    -- the greatest of them is below the bound, and of the word
     pub to_come_near : k.0 < bound
     to_come_near =
         cases (ltb k.0 bound) (ltb-true k.0 bound)
         (λ p. clash (is_in toCome k) h.there (w.passed k.0 (ltb-false k.0 bound p) h.below))
+
+    pub to_come_there : is_in word k ≡ true
+    to_come_there = sym (w.below k.0 to_come_near) ∙ h.there
 
     -- between it and the bound there is none
     pub to_come_over : (x : ℕ) → k.0 < x → x < bound → member word.0 x ≡ false

@@ -4,7 +4,7 @@
 -- In order: the members of a word (`members_of`, `members_excluding`), words with the same members (`same_keys`) and with none (`none_empty`,
 -- `empty_none`); `Leaves`, what last ones taken in turn leave (`leaves_in`, `leaves_trans`); a key is taken or all stays (`taking`,
 -- `taking_lt`, `taking_other`); keys that are not left are passed over (`pass_over`), so once over those left is once over the keys
--- (`Passing`: `passing_first`, `passing_next`, `passing_done`); the edges are among the keys (`edges_among`); a key that is
+-- (`Passing`: `passing_first`, `passing_left`, `passing_next`, `passing_done`); the edges are among the keys (`edges_among`); a key that is
 -- taken is a last one (`last_taken`), and a last one would be (`taken_last`); once over the keys takes last ones (`pass_leaves`,
 -- `pass_fewer`, `pass_lt`), and stays the same word only where there is no last one (`pass_stays`, `stuck`); `Kept`, what each turn keeps
 -- (`kept_first`, `kept_next`), and what it says where nothing is left (`kept_empty`), where nothing can be taken (`kept_stuck`), and after as
@@ -31,7 +31,7 @@ use Rattle.names.specs.KeySets.{is_in, excluding, both, is_empty}
 use Rattle.names.specs.declared.Key.{Key}
 use Rattle.names.specs.declared.Keys.{Keys}
 use Rattle.cycles.specs.Cycles.{members, row_at, edges, after_taking, after_pass}
-use Rattle.cycles.specs.Highest.{Highest, ToCome, to_come_first, to_come_near, to_come_over, to_come_next, to_come_none, to_come_other}
+use Rattle.cycles.specs.Highest.{Highest, ToCome, to_come_first, to_come_near, to_come_there, to_come_over, to_come_next, to_come_none, to_come_other}
 
 -- ---- words
 
@@ -118,6 +118,10 @@ pub passing_first : (rows : List Keys) (start : Keys) → Passing rows start sta
 passing_first rows start = record { bound = key_count; come = to_come_first start; leave = refl }
 
 module _ (rows : List Keys) (start rest toCome : Keys) (w : Passing rows start rest toCome) where
+  -- a key that is to come is left
+  pub passing_left : (k : Key) → Highest toCome k → is_in rest k ≡ true
+  passing_left k h = to_come_there w.bound rest toCome w.come k h
+
   -- the greatest to come is looked at
   pub passing_next : (k : Key) → Highest toCome k → (more fewer : Keys) → more ≡ after_taking (row_at rows k.0) rest k → fewer ≡ excluding toCome k → Passing rows start more fewer
   unfolding after_pass
