@@ -1,12 +1,12 @@
 -- Which names are left. Document 01, "Helpers": "the least free key, and least absent locality from 8; 'none' exactly when none is left". A key freed
 -- by undoing is free: what counts is what the slot holds.
 -- In order: `free_key`, and what a search over the keys comes to (`free_first`); `absent_locality`, and what a search from locality 8 on comes to
--- (`absent_first`, `absent_given`). `Laws` says both of the net that the image stands for.
+-- (`absent_first`, `absent_not`, `absent_given`). `Laws` says both of the net that the image stands for.
 -- Assumes nothing.
-use Rattle.std.specs.Prelude.{ℕ, ◌<◌, ◌≤◌, ◌≡◌, Bool, false, ◌&&◌, Option, unwrap_or}
+use Rattle.std.specs.Prelude.{ℕ, ◌<◌, ◌≤◌, ◌≡◌, refl, Bool, false, ◌&&◌, Option, unwrap_or}
 use Rattle.std.proofs.Math.Path.{ap}
 use Rattle.std.proofs.Common.{arith, lt-ltb, le-leb}
-use Rattle.std.proofs.Math.Bool.{not}
+use Rattle.std.proofs.Math.Bool.{true, not}
 use Rattle.order.specs.KeySets.{Set}
 use Rattle.names.specs.Names.{key_count, locality_count, first_made, none, key, locality}
 use Rattle.names.specs.Localities.{holds}
@@ -41,6 +41,13 @@ module _ (present : Localities) where
   -- those below 8 need not be looked at
   pub absent_first : (j : ℕ) → j < first_made → is_absent present j ≡ false
   absent_first j l = rw (below_made j l)
+
+  pub absent_not : (l : ℕ) → holds present (locality l) ≡ true → is_absent present l ≡ false
+  absent_not l h = rw h (and_no (makeable l))
+    where
+      and_no : (b : Bool) → (b && false) ≡ false
+      and_no true = refl
+      and_no false = refl
 
   absent_from : (l : ℕ) → first_made ≤ l → l < locality_count → is_absent present l ≡ not (holds present (locality l))
   absent_from l from below = rw (le-leb first_made l from, lt-ltb l locality_count below)
