@@ -156,8 +156,8 @@ module _ (S N : List ℕ) (lent : Lent S N) (k : Key) (u : Undoable (view (scrip
     looked_up : x ≡ slot_with (net_of N) k
     looked_up = is_x ∙ sym (at_key n₀ k.0 undo_below)
 
-    pub undo_keeps : (z : Slot) → z ≡ fresh 1 (body_of x) → (z.contents ≡ (slot_with (net_of N) k).contents) × (z.refs ≡ (slot_with (net_of N) k).refs)
-    undo_keeps z is-z = kept 1 x z (slot_with n₀ k) looked_up is-z
+    pub undo_keeps : (z : Slot) → z ≡ fresh 1 (body_of x) → (Sized N) × ((z.contents ≡ (slot_with (net_of N) k).contents) × (z.refs ≡ (slot_with (net_of N) k).refs))
+    undo_keeps z is-z = (undo_sized, kept 1 x z (slot_with n₀ k) looked_up is-z)
 
     pub undo_touches : (one both : Localities) → one ≡ freed_at (localities 0) x.first (slot_with (net_of N) x.first)
         → both ≡ freed_at one x.second (slot_with (net_of N) x.second) → both ≡ (undone_at (script_of S) (net_of N) k).touched

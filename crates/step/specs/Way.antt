@@ -1,7 +1,7 @@
 -- What is in the way of undoing an event: an event that depends on it directly, found by looking at what it made and used.
 -- In order: who used a tuple and who took it (`uses_key`, `takes_key`, `took`; `used_by`, `taken_by`), and the least of them (`least_of`, `Least`, `user_of`,
--- `taker_of`); `way_of`, in the code's order; the least, from a search (`least_here`, `least_none`), and what it says (`least_found`, `least_missing`); each way out of
--- `way_of` (`Out`, `ways`); what an event used of what another made (`used_made`, `used_second`); what is in the way depends on the event (`way_behind`), and where
+-- `taker_of`); `way_of`, in the code's order; the least, from a search (`least_here`, `least_none`), and what it says (`least_found`, `least_missing`); what a search
+-- sees at a slot (`unused_event`, `used_yes`, `untaken_event`, `taken_yes` and their kin); each way out of `way_of` (`Out`, `ways`); what an event used of what another made (`used_made`, `used_second`); what is in the way depends on the event (`way_behind`), and where
 -- nothing is, nothing does (`way_clear`); so nothing is in the way exactly of an event that may be undone (`clear_undoable`, `behind_not`,
 -- `undoable_clear`).
 -- Assumes nothing.
@@ -148,6 +148,57 @@ least_found p f h =
 pub least_missing : (p : ℕ → Bool) → least_of p ≡ None → (j : ℕ) → j < key_count → p j ≡ false
 least_missing p h =
     first_split key_count (λ j. not (p j)) (λ l q. not_behind (sym (least_at p l ∙ h))) (λ e all. λ j l. not-true (p j) (all j l))
+
+-- ---- what a search looks at, slot by slot: of the slot x with the key f
+
+module _ (n : Net) (t : Key) (f : ℕ) (x : Slot) (is : x ≡ slot_at n f) where
+  used_slot : used_by n t f ≡ uses_key x t
+  unfolding used_by
+  used_slot = ap (λ (z : Slot). uses_key z t) (sym is)
+
+  pub unused_event : eqb x.kind 2 ≡ false → used_by n t f ≡ false
+  unfolding uses_key
+  unused_event h = used_slot ∙ ap (λ (b : Bool). b && eqb x.used.0 t.0) h
+
+  pub unused_other : eqb x.used.0 t.0 ≡ false → used_by n t f ≡ false
+  unfolding uses_key
+  unused_other h = used_slot ∙ fails _ (λ u. clash (eqb x.used.0 t.0) (and_right (eqb x.kind 2) _ u) h)
+
+  pub used_yes : eqb x.kind 2 ≡ true → eqb x.used.0 t.0 ≡ true → used_by n t f ≡ true
+  unfolding uses_key
+  used_yes p q = used_slot ∙ and_both (eqb x.kind 2) _ p q
+
+  module _ (s : Script) where
+    taken_slot : taken_by s n t f ≡ takes_key s x t
+    unfolding taken_by
+    taken_slot = ap (λ (z : Slot). takes_key s z t) (sym is)
+
+    pub untaken_event : eqb x.kind 2 ≡ false → taken_by s n t f ≡ false
+    unfolding takes_key
+    untaken_event h = taken_slot ∙ ap (λ (b : Bool). b && (eqb x.used.0 t.0 && eqb (node_with s x.node).kind 2)) h
+
+    pub untaken_other : eqb x.used.0 t.0 ≡ false → taken_by s n t f ≡ false
+    unfolding takes_key
+    untaken_other h =
+        taken_slot ∙
+        fails _ (λ u. clash (eqb x.used.0 t.0) (and_left (eqb x.used.0 t.0) _ (and_right (eqb x.kind 2) _ u)) h)
+
+    pub untaken_node : (a : Action) → a ≡ node_with s x.node → eqb a.kind 2 ≡ false → taken_by s n t f ≡ false
+    unfolding takes_key
+    untaken_node a e h =
+        taken_slot ∙
+        fails _
+        (λ u.
+        clash (eqb (node_with s x.node).kind 2) (and_right (eqb x.used.0 t.0) _ (and_right (eqb x.kind 2) _ u))
+        (ap (λ (z : Action). eqb z.kind 2) (sym e) ∙ h))
+
+    pub taken_yes : (a : Action) → a ≡ node_with s x.node → eqb x.kind 2 ≡ true → eqb x.used.0 t.0 ≡ true → eqb a.kind 2 ≡ true
+        → taken_by s n t f ≡ true
+    unfolding takes_key
+    taken_yes a e p q h =
+        taken_slot ∙
+        and_both (eqb x.kind 2) _ p
+        (and_both (eqb x.used.0 t.0) _ q (ap (λ (z : Action). eqb z.kind 2) (sym e) ∙ h))
 
 -- ---- each way out
 

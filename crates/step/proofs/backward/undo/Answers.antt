@@ -5,7 +5,7 @@ pub slot_at-x-requires : goal.slot_at-x-requires
 slot_at-x-requires c = undo_below c.args.script.now c.args.net.now c.requires.0 c.args.k c.requires.1
 
 pub put_keeping-requires : goal.put_keeping-requires
-put_keeping-requires c = undo_keeps c.args.script.now c.args.net.now c.requires.0 c.args.k c.requires.1 _ c.slot_at-x.ensures _ c.as_new.ensures
+put_keeping-requires c = (undo_keeps c.args.script.now c.args.net.now c.requires.0 c.args.k c.requires.1 _ c.slot_at-x.ensures _ c.as_new.ensures).1
 
 pub returns : goal.returns
 returns c = record {
