@@ -51,10 +51,6 @@ line_of t = decimal (number t.answer) ++ numbers_of t.undone t.touched.0
 abbrev pub line_size : ℕ
 line_size = 15
 
--- what the output has room for: 4,096 lines
-abbrev pub output_room : ℕ
-output_room = 61440
-
 -- nothing was undone or touched
 abbrev pub tells_nothing : Told → Bool
 tells_nothing t = eqb t.undone 0 && eqb t.touched.0 0

@@ -15,12 +15,9 @@ use Rattle.rewind.specs.Lines.{line_of, line_short, Puts, puts_length}
 
 -- ---- requests one after the other
 
--- the bytes of one, and how many are answered at a time
+-- the bytes of one
 abbrev pub request_size : ℕ
 request_size = 6
-
-abbrev pub request_room : ℕ
-request_room = 4096
 
 -- the lines so far, and the bytes of the net
 pub record Run : Type 0 where

@@ -1,8 +1,9 @@
 // The text of an answer: "a line each: answer, undone in decimal, touched as 8 lower-case hex digits". Each function puts its bytes behind
-// those that stand in the output. By hand, since a line by `write!` takes 45 ns, and a request that is refused may take 13 (docs/BENCHMARKS.md).
+// those that stand in the output, whatever its room. By hand, since a line by `write!` takes 45 ns, and a request that is refused may take 13
+// (docs/BENCHMARKS.md).
 ghost use Rattle.std.specs.Prelude.{◌≡◌, ◌+◌, ◌≤◌, ◌<◌, [], ◌∷◌};
 ghost use Rattle.arrayvec.specs.ArrayVec.{array_vec_len};
-ghost use Rattle.rewind.specs.Lines.{line_size, output_room, Puts, decimal, hex_digit, hex_four, hex_word, numbers_of, tells_nothing, line_of};
+ghost use Rattle.rewind.specs.Lines.{line_size, Puts, decimal, hex_digit, hex_four, hex_word, numbers_of, tells_nothing, line_of};
 
 use arrayvec::ArrayVec;
 use names::Localities;
@@ -24,8 +25,8 @@ const LETTERS: u8 = b'a' - 10;
 // The numbers beside an answer where both are 0, and the line's end.
 const NOTHING: [u8; 12] = *b" 0 00000000\n";
 
-fn put(b: u8, out: &mut Output)
-    requires { array_vec_len out.old < output_room }
+fn put<const N: usize>(b: u8, out: &mut ArrayVec<u8, N>)
+    requires { array_vec_len out.old < N }
     ensures { Puts out.old.items out.new.items (b ∷ []) }
 {
     out.push(b);
@@ -34,8 +35,8 @@ fn put(b: u8, out: &mut Output)
 // ---- numbers
 
 // Without a zero in front.
-fn put_decimal(n: u8, out: &mut Output)
-    requires { (n < 100) × (array_vec_len out.old + 2 ≤ output_room) }
+fn put_decimal<const N: usize>(n: u8, out: &mut ArrayVec<u8, N>)
+    requires { (n < 100) × (array_vec_len out.old + 2 ≤ N) }
     ensures { Puts out.old.items out.new.items (decimal n) }
 {
     if n < 10 {
@@ -58,8 +59,8 @@ fn hex_digit(d: u32) -> u8
 }
 
 // The lower four of a number's hex digits.
-fn put_four(w: u32, out: &mut Output)
-    requires { array_vec_len out.old + 4 ≤ output_room }
+fn put_four<const N: usize>(w: u32, out: &mut ArrayVec<u8, N>)
+    requires { array_vec_len out.old + 4 ≤ N }
     ensures { Puts out.old.items out.new.items (hex_four w) }
 {
     put(hex_digit(w / 4096 % 16), out);
@@ -68,8 +69,8 @@ fn put_four(w: u32, out: &mut Output)
     put(hex_digit(w % 16), out);
 }
 
-fn put_word(w: u32, out: &mut Output)
-    requires { array_vec_len out.old + 8 ≤ output_room }
+fn put_word<const N: usize>(w: u32, out: &mut ArrayVec<u8, N>)
+    requires { array_vec_len out.old + 8 ≤ N }
     ensures { Puts out.old.items out.new.items (hex_word w) }
 {
     put_four(w / 65536, out);
@@ -79,8 +80,8 @@ fn put_word(w: u32, out: &mut Output)
 // ---- lines
 
 // The numbers beside an answer, and the line's end.
-fn put_numbers(undone: u8, touched: Localities, out: &mut Output)
-    requires { (undone < 100) × (array_vec_len out.old + 13 ≤ output_room) }
+fn put_numbers<const N: usize>(undone: u8, touched: Localities, out: &mut ArrayVec<u8, N>)
+    requires { (undone < 100) × (array_vec_len out.old + 13 ≤ N) }
     ensures { Puts out.old.items out.new.items (numbers_of undone touched.0) }
 {
     put(b' ', out);
@@ -91,8 +92,8 @@ fn put_numbers(undone: u8, touched: Localities, out: &mut Output)
 }
 
 // The same where both are 0: most lines are of a refusal or of a forward step. There is room, so nothing is refused.
-fn put_nothing(out: &mut Output)
-    requires { array_vec_len out.old + 13 ≤ output_room }
+fn put_nothing<const N: usize>(out: &mut ArrayVec<u8, N>)
+    requires { array_vec_len out.old + 13 ≤ N }
     ensures { Puts out.old.items out.new.items (numbers_of 0 0) }
 {
     let _room = out.try_extend_from_slice(&NOTHING);
@@ -104,8 +105,8 @@ fn tells_nothing(t: Told) -> bool
     t.undone == 0 && t.touched == Localities::EMPTY
 }
 
-pub fn put_line(t: Told, out: &mut Output)
-    requires { (t.undone < 100) × (array_vec_len out.old + line_size ≤ output_room) }
+pub fn put_line<const N: usize>(t: Told, out: &mut ArrayVec<u8, N>)
+    requires { (t.undone < 100) × (array_vec_len out.old + line_size ≤ N) }
     ensures { Puts out.old.items out.new.items (line_of t) }
 {
     put_decimal(u8::from(t.answer), out);

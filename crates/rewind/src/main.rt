@@ -5,12 +5,12 @@
 ghost use Rattle.std.specs.Prelude.{◌≡◌, ◌-◌, ◌*◌, ◌/◌, ◌%◌, ◌≤◌, length, take, drop};
 ghost use Rattle.machine.specs.Calls.{GoodImages};
 ghost use Rattle.rewind.specs.Lines.{line_size};
-ghost use Rattle.rewind.specs.Run.{request_size, request_room, run_of, answered};
+ghost use Rattle.rewind.specs.Run.{request_size, run_of, answered};
 
 use arrayvec::ArrayVec;
 use images::net_image::{self, NetBytes};
 use images::script_image::{self, ScriptBytes};
-use lines::{LINES, Output, put_line};
+use lines::{LINE, LINES, Output, put_line};
 use machine::{call_on, image_answer};
 use requests::{Answer, Request, refused};
 use std::io::Read;
@@ -24,9 +24,14 @@ const INPUT_ROOM: usize = LINES * Request::SIZE;
 // ---- requests that have arrived
 
 // All whole requests of a chunk, in their order, each on the net that the one before it left; the output then holds their lines.
-fn answer_chunk(script: &ScriptBytes, net: &mut NetBytes, requests: &[u8], out: &mut Output)
+fn answer_chunk<const N: usize>(
+    script: &ScriptBytes,
+    net: &mut NetBytes,
+    requests: &[u8],
+    out: &mut ArrayVec<u8, N>,
+)
     requires good_images { GoodImages script.now net.old }
-    requires room { length requests.now / request_size ≤ request_room }
+    requires room { line_size * (length requests.now / request_size) ≤ N }
     ensures run { run_of out.new.items net.new ≡ answered script.now net.old requests.now (length requests.now / request_size) }
     ensures good_images { GoodImages script.now net.new }
 {
@@ -64,7 +69,7 @@ fn read_more(source: &mut impl Read, input: &mut [u8], have: usize) -> usize
 
 // The line of a refusal; the program ends after it, so nobody asks whether it was written.
 fn print_refusal(rt: &impl Print, answer: Answer) {
-    let mut out: Output = ArrayVec::new();
+    let mut out: ArrayVec<u8, LINE> = ArrayVec::new();
     put_line(refused(answer), &mut out);
     let _ = rt.write_all(out.as_slice());
 }

@@ -12,7 +12,7 @@ request_here b parts k e l =
     ap (λ (ps : List (List ℕ)). get_or ps k []) e ∙ chunk_at 6 (length b / 6) k b l ∙ ap (λ (n : ℕ). take 6 (drop n b)) m
 
 pub loop-request-init : goal.loop-request-init
-loop-request-init c =
+loop-request-init g c =
     let room : length c.clear.new.self.items ≡ 0 = ap length c.clear.ensures in
     record {
       room = omega (arith, room);
@@ -21,16 +21,15 @@ loop-request-init c =
     }
 
 pub call_on-requires : goal.call_on-requires
-call_on-requires c = held_images c.args.script.now c.loop-request.net c.loop-request.invariant.held
+call_on-requires g c = held_images c.args.script.now c.loop-request.net c.loop-request.invariant.held
 
 pub put_line-requires : goal.put_line-requires
-put_line-requires c = (
-  reply_few c.args.script.now c.loop-request.net _ c.loop-request.invariant.held _ c.call_on.ensures.0,
-  omega (arith, c.requires.room, c.loop-request.invariant.room, c.loop-request-test.true, c.as_chunks.ensures.front_len),
-)
+put_line-requires g c =
+    let few = reply_few c.args.script.now c.loop-request.net _ c.loop-request.invariant.held _ c.call_on.ensures.0 in
+    omega (arith, few, c.requires.room, c.loop-request.invariant.room, c.loop-request-test.true, c.as_chunks.ensures.front_len)
 
 pub loop-request-preserved : goal.loop-request-preserved
-loop-request-preserved c =
+loop-request-preserved g c =
     let ran = one_more c.args.script.now c.loop-request.net _ _ _ _ _ c.call_on.ensures.0 c.call_on.ensures.1 c.put_line.ensures in
     let l : c.loop-request.request-index < length c.args.requests.now / 6 = omega (arith, c.loop-request-test.true, c.as_chunks.ensures.front_len) in
     let here = request_here c.args.requests.now _ c.loop-request.request-index c.as_chunks.ensures.front l in
@@ -41,7 +40,7 @@ loop-request-preserved c =
     }
 
 pub returns : goal.returns
-returns c =
+returns g c =
     let e : c.loop-request.request-index ≡ length c.args.requests.now / 6 =
     omega (arith, c.loop-request.auto.request-index-end, c.loop-request-test.false, c.as_chunks.ensures.front_len) in
     record {

@@ -1,4 +1,4 @@
 use Rattle.rewind.proofs.lines.put.Goals as goal
 
 pub returns : goal.returns
-returns c = record { text = c.push.ensures.items }
+returns g c = record { text = c.push.ensures.items }

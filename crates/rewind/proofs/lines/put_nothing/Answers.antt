@@ -10,6 +10,6 @@ when_ok (Ok x) h p = p
 when_ok (Err e) h p = absurd (false≢true h)
 
 pub returns : goal.returns
-returns c =
+returns g c =
     let r = c.try_extend_from_slice-room in
     puts_same nothing_text (record { text = when_ok r.result (r.ensures.variant.1 (omega (arith, c.requires))) r.ensures.ok })
