@@ -87,15 +87,20 @@ impl Items {
         }
     }
 
-    // A change of one byte, which past the net's end changes nothing; whether it was there.
+    // A change of one byte, which past the net's end changes nothing; whether the byte was there. An input that ends within the offset and then
+    // goes on, as a terminal's may, gives the byte all the same, and changes nothing.
     fn patch(&mut self, input: &mut impl Read) -> io::Result<bool> {
-        let mut change = [0u8; 3];
-        if read_full(input, &mut change)? < change.len() {
+        let mut offset = [0u8; 2];
+        let whole = read_full(input, &mut offset)? == offset.len();
+        let mut value = [0u8; 1];
+        if read_full(input, &mut value)? < value.len() {
             return Ok(false);
         }
-        let at = u16::from_le_bytes([change[0], change[1]]) as usize;
-        if let Some(place) = self.net.bytes_mut().get_mut(at) {
-            *place = change[2];
+        let at = u16::from_le_bytes(offset) as usize;
+        if whole {
+            if let Some(place) = self.net.bytes_mut().get_mut(at) {
+                *place = value[0];
+            }
         }
         Ok(true)
     }
