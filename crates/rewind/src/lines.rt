@@ -22,9 +22,6 @@ pub type Output = ArrayVec<u8, ROOM>;
 // The digits from 10 on are letters.
 const LETTERS: u8 = b'a' - 10;
 
-// The numbers beside an answer where both are 0, and the line's end.
-const NOTHING: [u8; 12] = *b" 0 00000000\n";
-
 fn put<const N: usize>(b: u8, out: &mut ArrayVec<u8, N>)
     requires { array_vec_len out.old < N }
     ensures { Puts out.old.items out.new.items (b ∷ []) }
@@ -91,12 +88,12 @@ fn put_numbers<const N: usize>(undone: u8, touched: Localities, out: &mut ArrayV
     put(b'\n', out);
 }
 
-// The same where both are 0: most lines are of a refusal or of a forward step. There is room, so nothing is refused.
+// The same where both are 0: most lines are of a refusal or of a forward step. Of numbers that are known the bytes are too, so none is computed.
 fn put_nothing<const N: usize>(out: &mut ArrayVec<u8, N>)
     requires { array_vec_len out.old + 13 ≤ N }
     ensures { Puts out.old.items out.new.items (numbers_of 0 0) }
 {
-    let _room = out.try_extend_from_slice(&NOTHING);
+    put_numbers(0, Localities::EMPTY, out);
 }
 
 fn tells_nothing(t: Told) -> bool
