@@ -62,7 +62,8 @@ fn tuple_fits(node: &NodeBytes, x: Slot, at: Locality, net: &NetBytes) -> bool
     if !is_tuple(t) || t.locality != at {
         return false;
     }
-    let Ok(()) = match_tuple(x.contents, node, tuple) else {
+    let vars = x.contents;
+    let Ok(()) = match_tuple(vars, node, tuple) else {
         return false;
     };
     true
@@ -112,7 +113,8 @@ fn first_stands(a: Action, k: Key, x: Slot, net: &NetBytes) -> bool
     ensures { result ≡ first_stands a k x (slot_with (net_of net.now) x.used) (slot_with (net_of net.now) x.first) }
 {
     let t = slot_in(net, x.used);
-    let next = continuation(a, k, x, t.contents);
+    let fields = t.contents;
+    let next = continuation(a, k, x, fields);
     let first = slot_in(net, x.first);
     stands_as(first, next, Slot::PAST)
 }
@@ -127,12 +129,10 @@ fn second_stands(a: Action, x: Slot, at: Locality, net: &NetBytes) -> bool
     }
     let second = slot_in(net, x.second);
     let made = second_made(a, x, at);
-    let since = if a.kind == Action::OUT {
-        Slot::CONSUMED
-    } else {
-        Slot::PAST
-    };
-    stands_as(second, made, since)
+    if a.kind == Action::OUT {
+        return stands_as(second, made, Slot::CONSUMED);
+    }
+    stands_as(second, made, Slot::PAST)
 }
 
 // ---- the events of a net
@@ -141,7 +141,9 @@ fn second_stands(a: Action, x: Slot, at: Locality, net: &NetBytes) -> bool
 fn step_agrees(node: &NodeBytes, k: Key, x: Slot, net: &NetBytes) -> bool
     ensures { result ≡ agrees_in (action_of node.now) k x (net_of net.now) }
 {
-    let Some(at) = evaluable(x.contents, x.locality, node) else {
+    // The variables are handed on as a value of their own: out of the slot they are stored part by part.
+    let vars = x.contents;
+    let Some(at) = evaluable(vars, x.locality, node) else {
         return false;
     };
     let a = action_of(node);

@@ -144,12 +144,12 @@ fn variables_after(
     ensures { result ≡ variables_after a vars fields l }
 {
     if meets_tuple(a.kind) {
-        bind(vars, a, fields)
-    } else if a.kind == Action::NEWLOC {
-        with_place(vars, a, l)
-    } else {
-        vars
+        return bind(vars, a, fields);
     }
+    if a.kind == Action::NEWLOC {
+        return with_place(vars, a, l);
+    }
+    vars
 }
 
 fn references_after(a: Action, k: Key, mut refs: [Key; Reference::COUNT]) -> [Key; Reference::COUNT]
@@ -185,8 +185,10 @@ pub fn live_process(
 pub fn continuation(a: Action, k: Key, x: Slot, fields: [Datum; Variable::COUNT]) -> Slot
     ensures { result ≡ live_process (continued_by a k (body_of x) fields x.place) }
 {
-    let contents = variables_after(a, x.contents, fields, x.place);
-    let refs = references_after(a, k, x.refs);
+    let vars = x.contents;
+    let old = x.refs;
+    let contents = variables_after(a, vars, fields, x.place);
+    let refs = references_after(a, k, old);
     live_process(x.locality, a.next, contents, refs)
 }
 
@@ -198,7 +200,9 @@ pub fn field_made(vars: [Datum; Variable::COUNT], count: u8, j: u8, f: Field) ->
     if j < count { actual_of(vars, f) } else { UNSET }
 }
 
-// The fields of an out, evaluated; the rest of a tuple's places stay unset.
+// The fields of an out, evaluated; the rest of a tuple's places stay unset. In line, as is the tuple of them: for a call the node and the
+// variables would be stored part by part.
+#[inline(always)]
 fn fields_made(a: Action, vars: [Datum; Variable::COUNT]) -> [Datum; Variable::COUNT]
     ensures { result ≡ tab 8 (λ j. field_made vars a.count j (field_at a j)) }
 {
@@ -211,6 +215,7 @@ fn fields_made(a: Action, vars: [Datum; Variable::COUNT]) -> [Datum; Variable::C
 }
 
 // The tuple that an out makes of a process's variables, where the step acts.
+#[inline(always)]
 pub fn tuple_made(a: Action, vars: [Datum; Variable::COUNT], at: Locality) -> Slot
     ensures { result ≡ tuple_of a vars at }
 {
@@ -235,9 +240,10 @@ pub fn process_made(a: Action, x: Slot, at: Locality) -> Slot
 pub fn second_made(a: Action, x: Slot, at: Locality) -> Slot
     ensures { result ≡ second_at a (body_of x) at }
 {
+    // A return, and no value of an if: a slot that comes by two ways is copied once more.
     if a.kind == Action::OUT {
-        tuple_made(a, x.contents, at)
-    } else {
-        process_made(a, x, at)
+        let vars = x.contents;
+        return tuple_made(a, vars, at);
     }
+    process_made(a, x, at)
 }

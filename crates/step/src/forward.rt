@@ -46,7 +46,9 @@ fn forward_found(node: &NodeBytes, net: &NetBytes, r: Request) -> Result<Localit
     if !places_given(a.kind, r) {
         return Err(Answer::WrongPlaces);
     }
-    let Some(at) = evaluable(x.contents, x.locality, node) else {
+    // The variables are handed on as a value of their own: out of the slot they are stored part by part.
+    let vars = x.contents;
+    let Some(at) = evaluable(vars, x.locality, node) else {
         return Err(Answer::Unset);
     };
     if !target_there(a.kind, present_in(net), at) {
@@ -55,7 +57,7 @@ fn forward_found(node: &NodeBytes, net: &NetBytes, r: Request) -> Result<Localit
     if !tuple_there(a.kind, net, r.used, at) {
         return Err(Answer::NoTuple);
     }
-    let Ok(()) = template_met(x.contents, node, net, r.used) else {
+    let Ok(()) = template_met(vars, node, net, r.used) else {
         return Err(Answer::NoMatch);
     };
     if !names_fresh(a.kind, net, r) {
@@ -114,7 +116,9 @@ fn put_next(node: &NodeBytes, r: Request, net: &mut NetBytes)
 {
     let a = action_of(node);
     let x = slot_in(net, r.key);
-    let same = live_process(x.locality, a.next, x.contents, x.refs);
+    let contents = x.contents;
+    let refs = x.refs;
+    let same = live_process(x.locality, a.next, contents, refs);
     put_slot(r.first, same, net);
     refer(a, r, net);
 }
@@ -127,7 +131,8 @@ fn bind_next(node: &NodeBytes, r: Request, net: &mut NetBytes)
     let a = action_of(node);
     if meets_tuple(a.kind) {
         let t = slot_in(net, r.used);
-        bind_in(node, t.contents, r.first, net);
+        let met = t.contents;
+        bind_in(node, met, r.first, net);
     } else if a.kind == Action::NEWLOC {
         bind_place(a, r, net);
     }
@@ -145,7 +150,8 @@ fn put_second(node: &NodeBytes, r: Request, at: Locality, net: &mut NetBytes)
     let x = slot_in(net, r.key);
     // Two calls of put_slot, and not one of second_made: a slot that comes by two ways is copied once more.
     if a.kind == Action::OUT {
-        put_slot(r.second, tuple_made(a, x.contents, at), net);
+        let vars = x.contents;
+        put_slot(r.second, tuple_made(a, vars, at), net);
     } else {
         put_slot(r.second, process_made(a, x, at), net);
     }

@@ -6,6 +6,6 @@ pub returns-then-a-eq-OUT : goal.returns-then-a-eq-OUT
 unfolding second_at tuple_at
 returns-then-a-eq-OUT c = rw (eq-eqb _ _ c.if-a-eq-OUT.true, c.tuple_made.ensures)
 
-pub returns-else-a-eq-OUT : goal.returns-else-a-eq-OUT
+pub returns : goal.returns
 unfolding second_at
-returns-else-a-eq-OUT c = rw (ne_eqb _ _ c.if-a-eq-OUT.false, c.process_made.ensures)
+returns c = rw (ne_eqb _ _ c.if-a-eq-OUT.false, c.process_made.ensures)

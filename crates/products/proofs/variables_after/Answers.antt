@@ -11,6 +11,6 @@ pub returns-then-a-eq-NEWLOC : goal.returns-then-a-eq-NEWLOC
 unfolding variables_after
 returns-then-a-eq-NEWLOC c = rw (sym c.if-meets_tuple.ensures, eq-eqb _ _ c.if-a-eq-NEWLOC.true, c.with_place.ensures)
 
-pub returns-else-a-eq-NEWLOC : goal.returns-else-a-eq-NEWLOC
+pub returns : goal.returns
 unfolding variables_after
-returns-else-a-eq-NEWLOC c = rw (sym c.if-meets_tuple.ensures, ne_eqb _ _ c.if-a-eq-NEWLOC.false)
+returns c = rw (sym c.if-meets_tuple.ensures, ne_eqb _ _ c.if-a-eq-NEWLOC.false)
